@@ -1,0 +1,6 @@
+-- what the contracts say, in reading order
+pub mod Room
+pub mod Names
+pub mod Written
+-- what the functions inside the crate promise each other
+pub mod Inside

@@ -1,0 +1,133 @@
+// Values that can be copied where memory is there.
+ghost use Rattle.std.specs.Prelude.{◌≡◌, IfOk};
+
+use crate::{AttrId, ClassId, Kind, List, NoMemory, ObjId, PatternId, RefId, RuleId, Text, Value};
+use std::alloc::Global;
+
+/// Plain data: a value that can be copied, where there is memory for the copy. The texts in it are
+/// shared with the copy.
+pub trait Plain: Drop {
+    fn copy(&self, alloc: Global) -> Result<Self, NoMemory>
+        ensures { IfOk result (λ copy. copy ≡ self.now) };
+}
+
+impl Plain for bool {
+    fn copy(&self, _alloc: Global) -> Result<bool, NoMemory> {
+        Ok(*self)
+    }
+}
+
+impl Plain for u8 {
+    fn copy(&self, _alloc: Global) -> Result<u8, NoMemory> {
+        Ok(*self)
+    }
+}
+
+impl Plain for u16 {
+    fn copy(&self, _alloc: Global) -> Result<u16, NoMemory> {
+        Ok(*self)
+    }
+}
+
+impl Plain for u32 {
+    fn copy(&self, _alloc: Global) -> Result<u32, NoMemory> {
+        Ok(*self)
+    }
+}
+
+impl Plain for u64 {
+    fn copy(&self, _alloc: Global) -> Result<u64, NoMemory> {
+        Ok(*self)
+    }
+}
+
+impl Plain for i64 {
+    fn copy(&self, _alloc: Global) -> Result<i64, NoMemory> {
+        Ok(*self)
+    }
+}
+
+impl Plain for ObjId {
+    fn copy(&self, _alloc: Global) -> Result<ObjId, NoMemory> {
+        Ok(*self)
+    }
+}
+
+impl Plain for ClassId {
+    fn copy(&self, _alloc: Global) -> Result<ClassId, NoMemory> {
+        Ok(*self)
+    }
+}
+
+impl Plain for AttrId {
+    fn copy(&self, _alloc: Global) -> Result<AttrId, NoMemory> {
+        Ok(*self)
+    }
+}
+
+impl Plain for RefId {
+    fn copy(&self, _alloc: Global) -> Result<RefId, NoMemory> {
+        Ok(*self)
+    }
+}
+
+impl Plain for PatternId {
+    fn copy(&self, _alloc: Global) -> Result<PatternId, NoMemory> {
+        Ok(*self)
+    }
+}
+
+impl Plain for RuleId {
+    fn copy(&self, _alloc: Global) -> Result<RuleId, NoMemory> {
+        Ok(*self)
+    }
+}
+
+impl Plain for Kind {
+    fn copy(&self, _alloc: Global) -> Result<Kind, NoMemory> {
+        Ok(*self)
+    }
+}
+
+impl Plain for Text {
+    fn copy(&self, _alloc: Global) -> Result<Text, NoMemory> {
+        Ok(self.share())
+    }
+}
+
+impl Plain for Value {
+    fn copy(&self, _alloc: Global) -> Result<Value, NoMemory> {
+        match self {
+            Value::Bool(b) => Ok(Value::Bool(*b)),
+            Value::Int(n) => Ok(Value::Int(*n)),
+            Value::Text(text) => Ok(Value::Text(text.share())),
+            Value::Enum(e, l) => Ok(Value::Enum(*e, *l)),
+            Value::Obj(o) => Ok(Value::Obj(*o)),
+        }
+    }
+}
+
+impl<A: Plain, B: Plain> Plain for (A, B) {
+    fn copy(&self, alloc: Global) -> Result<(A, B), NoMemory> {
+        Ok((self.0.copy(alloc)?, self.1.copy(alloc)?))
+    }
+}
+
+impl<A: Plain> Plain for Option<A> {
+    fn copy(&self, alloc: Global) -> Result<Option<A>, NoMemory> {
+        match self {
+            Some(a) => Ok(Some(a.copy(alloc)?)),
+            None => Ok(None),
+        }
+    }
+}
+
+impl<T: Plain> Plain for List<T> {
+    fn copy(&self, alloc: Global) -> Result<List<T>, NoMemory> {
+        let mut copies = Vec::with_capacity(alloc, self.len())?;
+        for item in self.as_slice() {
+            copies.push(item.copy(alloc)?)?;
+        }
+        Ok(List::from_vec(copies))
+    }
+}
