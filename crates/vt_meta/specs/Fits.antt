@@ -1,0 +1,49 @@
+-- Values and links that fit a metamodel, where these objects are live.
+use Rattle.std.specs.Prelude.{◌≡◌, ℕ, List, slice_get, Contains, count_by, IsSome, Some}
+use Rattle.vt_base.specs.declared.numbers.ObjId.{ObjId}
+use Rattle.vt_base.specs.declared.numbers.ClassId.{ClassId}
+use Rattle.vt_base.specs.declared.numbers.AttrId.{AttrId}
+use Rattle.vt_base.specs.declared.value.Value.{Value}
+use Rattle.vt_base.specs.declared.value.Value.TheVariants as value
+use Rattle.vt_base.specs.declared.value.Kind.{Kind}
+use Rattle.vt_base.specs.declared.value.Kind.TheVariants as kind
+use Rattle.vt_meta.specs.Metamodel.{Metamodel}
+use Rattle.vt_meta.specs.Creating.{default_value}
+use Rattle.vt_meta.specs.Assigning.{is_value_of}
+use Rattle.vt_meta.specs.declared.metamodel.AttrInfo.{AttrInfo}
+use Rattle.vt_meta.specs.declared.metamodel.RefInfo.{RefInfo}
+use Rattle.vt_meta.specs.declared.model.Object.{Object}
+use Rattle.vt_meta.specs.declared.model.AttributeValue.{AttributeValue}
+use Rattle.vt_meta.specs.declared.model.Link.{Link}
+
+-- the kind that a value has
+abbrev pub kind_of : Value → Kind
+kind_of (value.Bool b) = kind.Bool
+kind_of (value.Int n) = kind.Int
+kind_of (value.Text s) = kind.Text
+kind_of (value.Enum e l) = kind.Enum e
+kind_of (value.Obj o) = kind.Obj
+
+-- an object with this number and of this class is live
+pub record IsLive (live : List Object) (o : ObjId) (c : ClassId) : Type 0 where
+  pub name : List ℕ
+  pub there : Contains live (record { number = o; name = name; class = c })
+
+-- the object is live, its class has the attribute, and the value has the attribute's kind
+pub record FitsAttribute (meta : Metamodel) (live : List Object) (t : AttributeValue) : Type 0 where
+  pub info : AttrInfo
+  pub declared : slice_get meta.attributes t.attribute.0 ≡ Some info
+  pub owner : IsLive live t.object info.class
+  pub kind : kind_of t.value ≡ info.kind
+
+-- both ends are live, the source's class has the reference, which leads to the target's class
+pub record FitsReference (meta : Metamodel) (live : List Object) (link : Link) : Type 0 where
+  pub info : RefInfo
+  pub declared : slice_get meta.references link.reference.0 ≡ Some info
+  pub source : IsLive live link.source info.class
+  pub target : IsLive live link.target info.target
+
+-- for each attribute of its class whose kind has a default, the object has one value
+abbrev pub HasItsValues : Metamodel → List AttributeValue → Object → Type 0
+HasItsValues meta values o = (a : AttrId) (info : AttrInfo) → slice_get meta.attributes a.0 ≡ Some info
+    → info.class ≡ o.class → IsSome (default_value info.kind) → count_by (is_value_of o.number a) values ≡ 1

@@ -1,0 +1,74 @@
+// Changes to a model, and why one is refused.
+ghost use Rattle.std.specs.Prelude.{◌≡◌};
+
+use vt_base::Text;
+
+/// A value that a change gives to an attribute.
+#[derive(Debug, Drop)]
+pub enum Given {
+    Bool(bool),
+    Int(i64),
+    Text(Text),
+}
+
+impl Given {
+    /// The same value, for one more owner. It takes no memory and can't fail.
+    pub fn share(&self) -> Given
+        ensures { result ≡ self.now }
+    {
+        match self {
+            Given::Bool(b) => Given::Bool(*b),
+            Given::Int(n) => Given::Int(*n),
+            Given::Text(text) => Given::Text(text.share()),
+        }
+    }
+}
+
+/// A change to a model. It names objects, classes and features by their names.
+#[derive(Debug, Drop)]
+pub enum Change {
+    /// A new object. Its number is the next one, or a greater one that is asked for.
+    Create {
+        name: Text,
+        class: Text,
+        number: Option<u32>,
+    },
+    /// An attribute gets a value.
+    Set {
+        name: Text,
+        attribute: Text,
+        value: Given,
+    },
+    /// An attribute gets its default back.
+    Unset {
+        name: Text,
+        attribute: Text,
+    },
+    /// An object gets a target for a reference. Nothing changes where it has it.
+    Link {
+        name: Text,
+        reference: Text,
+        target: Text,
+    },
+}
+
+/// Why a change is refused: the first of these that applies, in this order.
+#[derive(Clone, Copy, Debug, PartialEq, Eq)]
+pub enum Refusal {
+    /// A named object isn't there.
+    UnknownObject,
+    /// No class has the name.
+    UnknownClass,
+    /// An object has the name already.
+    NameTaken,
+    /// The name begins with `_` and isn't `_` and the object's number.
+    ReservedName,
+    /// The object's class has no such feature.
+    UnknownFeature,
+    /// A value is given to a reference, a link to an attribute, or a value of another kind.
+    WrongKind,
+    /// The target isn't of the class that the reference leads to.
+    WrongTarget,
+    /// The object's number would be 1,048,576 or more.
+    TooManyObjects,
+}
