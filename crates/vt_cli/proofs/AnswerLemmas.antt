@@ -1,0 +1,30 @@
+-- A prefix of the text of a prepared outcome is one of the due text, or of the line of a failed fetch.
+use Rattle.std.proofs.Common.{◌≡◌, ℕ, List, Option, Some, None, subst, inl, inr, ap}
+use Rattle.std.specs.Prelude.{IfSome, ◌⊎◌}
+use Rattle.vt_outside.specs.Faults.{Rose}
+use Rattle.vt_outside.specs.Sink.{AppendsPrefix}
+use Rattle.vt_cli.specs.Answer.{WritesFront}
+use Rattle.vt_cli.specs.Inside.Prepared.{Prepares, unread}
+use Rattle.vt_cli.specs.declared.ending.Role.{Role}
+use Rattle.vt_cli.specs.declared.ending.Outcome.{Outcome}
+
+-- what follows where there is a value
+IfSome-follows : {T : Type 0} (o : Option T) (P Q : T → Type 0) → ((x : T) → P x → Q x) → IfSome o P → IfSome o Q
+IfSome-follows None P Q follows p = p
+IfSome-follows (Some x) P Q follows p = follows x p
+
+-- ---- WritesFront
+
+prepared_front : (due outcome : Outcome) (before now : ℕ) (old new : Option (List ℕ))
+    → Prepares due before now outcome → AppendsPrefix old new outcome.text → WritesFront due.text before now old new
+prepared_front due outcome before now old new prepared front = elim prepared [
+  | inl planned ↦ inl (subst (λ (o : Outcome). AppendsPrefix old new o.text) planned.0 front)
+  | inr failed ↦ inr (failed.0, failed.2, subst (λ (o : Outcome). AppendsPrefix old new o.text) failed.1 front)
+]
+
+pub WritesFront-told : {F : Type 0} (files : Option F) (due : F → Outcome) (outcome : Outcome) (before now : ℕ) (old new : Option (List ℕ))
+    → IfSome files (λ known. Prepares (due known) before now outcome) → AppendsPrefix old new outcome.text
+    → IfSome files (λ known. WritesFront (due known).text before now old new)
+WritesFront-told files due outcome before now old new told front =
+    IfSome-follows files (λ known. Prepares (due known) before now outcome) (λ known. WritesFront (due known).text before now old new)
+    (λ known prepared. prepared_front (due known) outcome before now old new prepared front) told

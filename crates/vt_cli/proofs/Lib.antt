@@ -1,0 +1,5 @@
+pub mod AnswerLemmas
+pub mod EffectLemmas
+pub mod JoinedLemmas
+pub mod LoadingLemmas
+pub mod NoFloats

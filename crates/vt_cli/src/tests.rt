@@ -1,0 +1,107 @@
+// The command over files and output in memory: its endings, its dumps and the lines that tell a
+// fault, each worked out by hand.
+ghost use Rattle.std.specs.Prelude.{◌≡◌};
+
+use crate::{Ending, viatra};
+use std::alloc::Global;
+use std::marker::Brand;
+use std::sync::ledger::{Blank, Ledger};
+use std::test::Fail;
+use vt_base::{List, NoMemory, Steps, Text};
+use vt_outside::{MemShelf, MemSink};
+
+mod documents;
+mod faults;
+mod show;
+
+// One class: its objects have a number `w`, and lead to others by `to`.
+const NODES: &str =
+    r#"{"format":1,"classes":[{"name":"Node","attributes":[{"name":"w","kind":"int"}],"references":[{"name":"to","target":"Node","many":true}]}]}"#;
+
+// Two nodes, of which the first leads to both.
+const TWO_NODES: &str =
+    r#"{"format":1,"objects":[{"name":"p","class":"Node","attributes":{"w":7},"links":{"to":["q","p","q"]}},{"name":"q","class":"Node"}]}"#;
+
+const TWO_NODES_DUMP: &str = concat!(
+    r#"{"format":1,"next":2,"objects":[{"attributes":{"w":7},"class":"Node","links":{"to":["p","q"]},"name":"p","number":0},"#,
+    r#"{"attributes":{"w":0},"class":"Node","links":{},"name":"q","number":1}]}"#,
+    "\n",
+);
+
+fn word_list(alloc: Global, words: &[&str]) -> Result<List<Text>, NoMemory> {
+    let mut list = List::new(alloc);
+    for word in words {
+        list.add(Text::new(alloc, word)?)?;
+    }
+    Ok(list)
+}
+
+fn number_list(alloc: Global, numbers: &[u64]) -> Result<List<u64>, NoMemory> {
+    let mut list = List::new(alloc);
+    list.extend(numbers)?;
+    Ok(list)
+}
+
+fn add_file(
+    files: &mut List<(Text, List<u8>)>,
+    alloc: Global,
+    name: &str,
+    bytes: &[u8],
+) -> Result<(), NoMemory> {
+    let mut copy = List::new(alloc);
+    copy.extend(bytes)?;
+    files.add((Text::new(alloc, name)?, copy))
+}
+
+// A shelf with a file `meta` and a file `model`, as far as they are there.
+fn shelf_of(
+    alloc: Global,
+    meta: Option<&[u8]>,
+    model: Option<&[u8]>,
+    failing: &[u64],
+) -> Result<MemShelf, NoMemory> {
+    let mut files = List::new(alloc);
+    if let Some(bytes) = meta {
+        add_file(&mut files, alloc, "meta", bytes)?;
+    }
+    if let Some(bytes) = model {
+        add_file(&mut files, alloc, "model", bytes)?;
+    }
+    Ok(MemShelf::new(files, number_list(alloc, failing)?))
+}
+
+fn run<L: Ledger>(
+    alloc: Global,
+    words: &List<Text>,
+    shelf: &mut MemShelf,
+    out: &mut MemSink,
+    blank: Blank,
+) -> Ending
+    requires name { blank.name ≡ L.name }
+    requires parts { blank.parts ≡ L.parts }
+    requires some { blank.parts ≡ 1 }
+{
+    let mut steps = Steps::<L>::new(blank);
+    viatra(alloc, words.as_slice(), shelf, out, &mut steps)
+}
+
+// How a command ends over a shelf, and what it writes, where some calls of the sink fail.
+fn answer(
+    alloc: Global,
+    words: &[&str],
+    shelf: MemShelf,
+    failing_puts: &[u64],
+) -> Result<(Ending, String), Fail> {
+    let words = word_list(alloc, words)?;
+    let mut shelf = shelf;
+    let mut out = MemSink::new(alloc, number_list(alloc, failing_puts)?);
+    let ending = run::<Brand>(alloc, &words, &mut shelf, &mut out, Blank::new(1));
+    let text = str::from_utf8(out.bytes())?;
+    Ok((ending, String::from_str(alloc, text)?))
+}
+
+// How `show` ends over a metamodel and a model, and what it writes.
+fn shown(alloc: Global, meta: &str, model: &[u8]) -> Result<(Ending, String), Fail> {
+    let shelf = shelf_of(alloc, Some(meta.as_bytes()), Some(model), &[])?;
+    answer(alloc, &["show", "meta", "model"], shelf, &[])
+}
