@@ -1,0 +1,4 @@
+mod ScanSteps
+mod CutLemmas
+mod SpellingLemmas
+mod ExpressionLemmas

@@ -1,0 +1,30 @@
+// What holds of every text.
+ghost use Rattle.std.specs.Prelude.{◌≡◌, ◌⊎◌, ℕ, List};
+ghost use Rattle.vt_text.specs.Spelling.{Spells, IsBadAt};
+ghost use Rattle.vt_text.specs.Spans.{AreSlices};
+ghost use Rattle.vt_text.specs.declared.token.Token.{Token};
+
+/// A text spells at most one list of tokens.
+pub fn one_list()
+    ensures { (text : List ℕ) (tokens others : List Token) → Spells text tokens → Spells text others → tokens ≡ others }
+{}
+
+/// A text is bad on at most one line.
+pub fn one_bad_line()
+    ensures { (text : List ℕ) (line other : ℕ) → IsBadAt text line → IsBadAt text other → line ≡ other }
+{}
+
+/// A text that is bad spells no tokens.
+pub fn bad_spells_nothing()
+    ensures { (text : List ℕ) (tokens : List Token) (line : ℕ) → Spells text tokens → IsBadAt text line → ⊥ }
+{}
+
+/// Each text spells tokens or is bad.
+pub fn spells_or_is_bad()
+    ensures { (text : List ℕ) → ((tokens : List Token) × Spells text tokens) ⊎ ((line : ℕ) × IsBadAt text line) }
+{}
+
+/// The tokens that a text spells are slices of it, one after the other.
+pub fn tokens_are_slices()
+    ensures { (text : List ℕ) (tokens : List Token) → Spells text tokens → AreSlices text 0 tokens }
+{}

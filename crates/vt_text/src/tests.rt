@@ -1,0 +1,3 @@
+//! What texts spell, and what expressions are worth.
+mod expressions;
+mod texts;

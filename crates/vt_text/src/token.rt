@@ -1,0 +1,45 @@
+// Tokens, and the fault of a text that has none at some place.
+use vt_base::NoMemory;
+
+/// The five sorts of token.
+#[derive(Clone, Copy, Debug, PartialEq, Eq)]
+pub enum TokenKind {
+    /// A letter or `_`, then letters, digits and `_`, but not `_` alone.
+    Word,
+    /// `_` alone.
+    Blank,
+    /// Digits, for a number up to 9223372036854775807.
+    Number,
+    /// A string in double quotes, on one line.
+    Quoted,
+    Mark,
+}
+
+/// A token and where it stands: its bytes are those of the text from `start` up to `end`, and
+/// lines count from 1.
+#[derive(Clone, Copy, Debug, PartialEq, Eq)]
+pub struct Token {
+    pub kind: TokenKind,
+    pub start: u32,
+    pub end: u32,
+    pub line: u32,
+}
+
+/// Why a text has no list of tokens.
+#[derive(Clone, Copy, Debug, PartialEq, Eq)]
+pub enum TokenFault {
+    /// The first text that is neither a token nor between tokens begins on this line.
+    Bad { line: u32 },
+    NoMemory,
+}
+
+impl From<NoMemory> for TokenFault {
+    ghost use Rattle.std.specs.Prelude.{◌≡◌};
+    ghost use Rattle.vt_text.specs.declared.token.TokenFault.TheVariants.{NoMemory as WantOfMemory};
+
+    ghost from_gives = { λ _ e. e ≡ WantOfMemory };
+
+    fn from(_: NoMemory) -> TokenFault {
+        TokenFault::NoMemory
+    }
+}
