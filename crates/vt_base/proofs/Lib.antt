@@ -1,1 +1,5 @@
+pub mod OrderLemmas
+pub mod RowsLemmas
+pub mod SetLemmas
 pub mod WrittenLemmas
+pub mod FurtherLemmas

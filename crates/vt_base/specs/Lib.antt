@@ -1,5 +1,8 @@
 -- what the contracts say, in reading order
 pub mod Room
+pub mod Order
+pub mod Rows
+pub mod Aggregate
 pub mod Names
 pub mod Written
 -- what the functions inside the crate promise each other

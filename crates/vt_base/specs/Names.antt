@@ -1,5 +1,6 @@
 -- The names that a printed value needs: those of enums, of their literals, and of objects.
 use Rattle.std.specs.Prelude.{ℕ, List, nat_eq, ◌==◌, position, find, slice_get, IsSome, Option, option_map, option_and_then}
+use Rattle.std.specs.List.{AllByRecursion}
 use Rattle.std.specs.Cmp.Lexicographic.{pointwise}
 use Rattle.vt_base.specs.declared.numbers.ObjId.{ObjId}
 use Rattle.vt_base.specs.declared.value.Value.{Value}
@@ -40,3 +41,7 @@ IsNamed enums objects (Int n) = Unit {0}
 IsNamed enums objects (Text s) = Unit {0}
 IsNamed enums objects (Enum e l) = IsSome (literal_names enums e l)
 IsNamed enums objects (Obj o) = IsSome (object_name objects o)
+
+-- what the values of a tuple name has a name
+abbrev pub AreNamed : List EnumNames → List ObjectName → List Value → Type 0
+AreNamed enums objects values = AllByRecursion (IsNamed enums objects) values

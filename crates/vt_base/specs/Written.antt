@@ -1,5 +1,6 @@
--- The text of a value.
+-- The texts of a value and of a tuple.
 use Rattle.std.specs.Prelude.{◌≡◌, ℕ, List, [], ◌++◌, take, codes, true, false, Option, Some, None, unwrap_or}
+use Rattle.std.specs.List.{join_by}
 use Rattle.std.specs.Fmt.{signed_decimal}
 use Rattle.serde_json.specs.Data.{string}
 use Rattle.serde_json.specs.Written.{compact_text}
@@ -20,6 +21,10 @@ value_text enums objects (Int n) = signed_decimal n
 value_text enums objects (Text s) = compact_text (string s)
 value_text enums objects (Enum e l) = literal_text (literal_names enums e l)
 value_text enums objects (Obj o) = unwrap_or (object_name objects o) []
+
+-- `(v1, v2)`, and `()` of no values
+abbrev pub tuple_text : List EnumNames → List ObjectName → List Value → List ℕ
+tuple_text enums objects values = codes "(" ++ join_by (value_text enums objects) (codes ", ") values ++ codes ")"
 
 -- a list grew by the front of a text
 pub record AppendsFront (old new text : List ℕ) : Type 0 where

@@ -1,7 +1,8 @@
-//! The words that every other crate speaks: texts, lists, values, and how a value is printed.
+//! The words that every other crate speaks: texts, lists, values, rows, and how a value is printed.
 //!
 //! It stands on `vt_shared`, and prints by `serde_json` and `itoa`. Read `specs/Room.antt`,
-//! `specs/Names.antt`, then `specs/Written.antt`.
+//! `specs/Order.antt`, `specs/Rows.antt`, `specs/Aggregate.antt`, `specs/Names.antt`, then
+//! `specs/Written.antt`.
 #![tactic(auto)]
 
 // Memory: what wanting it answers, and what can be copied.
@@ -14,6 +15,11 @@ mod text;
 // Values, and the numbers of what a metamodel and a model name.
 mod numbers;
 mod value;
+// Tuples of values, sets of them, and what a column of one comes to.
+mod aggregate;
+mod laws;
+mod rows;
+mod tuple;
 // Printing.
 mod names;
 mod writing;
@@ -30,9 +36,16 @@ pub use text::Text;
 // Values, and the numbers of what a metamodel and a model name.
 pub use numbers::{AttrId, ClassId, ObjId, PatternId, RefId, RuleId};
 pub use value::{Kind, Value};
+// Tuples of values, sets of them, and what a column of one comes to.
+pub use aggregate::AggKind;
+pub use laws::{
+    a_list_has_one_set, a_tuple_stands_where_it_is, tuples_are_ordered, values_are_ordered,
+};
+pub use rows::Rows;
+pub use tuple::Tuple;
 // Printing.
 pub use names::Names;
-pub use writing::write_value;
+pub use writing::{write_tuple, write_value};
 // Counted steps.
 pub use steps::Steps;
 

@@ -1,7 +1,10 @@
 // Values that can be copied where memory is there.
 ghost use Rattle.std.specs.Prelude.{◌≡◌, IfOk};
 
-use crate::{AttrId, ClassId, Kind, List, NoMemory, ObjId, PatternId, RefId, RuleId, Text, Value};
+use crate::{
+    AggKind, AttrId, ClassId, Kind, List, NoMemory, ObjId, PatternId, RefId, RuleId, Text, Tuple,
+    Value,
+};
 use std::alloc::Global;
 
 /// Plain data: a value that can be copied, where there is memory for the copy. The texts in it are
@@ -89,6 +92,12 @@ impl Plain for Kind {
     }
 }
 
+impl Plain for AggKind {
+    fn copy(&self, _alloc: Global) -> Result<AggKind, NoMemory> {
+        Ok(*self)
+    }
+}
+
 impl Plain for Text {
     fn copy(&self, _alloc: Global) -> Result<Text, NoMemory> {
         Ok(self.share())
@@ -104,6 +113,12 @@ impl Plain for Value {
             Value::Enum(e, l) => Ok(Value::Enum(*e, *l)),
             Value::Obj(o) => Ok(Value::Obj(*o)),
         }
+    }
+}
+
+impl Plain for Tuple {
+    fn copy(&self, alloc: Global) -> Result<Tuple, NoMemory> {
+        Tuple::from_slice(alloc, self.as_slice())
     }
 }
 
@@ -124,10 +139,17 @@ impl<A: Plain> Plain for Option<A> {
 
 impl<T: Plain> Plain for List<T> {
     fn copy(&self, alloc: Global) -> Result<List<T>, NoMemory> {
-        let mut copies = Vec::with_capacity(alloc, self.len())?;
-        for item in self.as_slice() {
-            copies.push(item.copy(alloc)?)?;
-        }
-        Ok(List::from_vec(copies))
+        copy_all(alloc, self.as_slice())
     }
+}
+
+// Copies of the items of a slice.
+pub(crate) fn copy_all<T: Plain>(alloc: Global, items: &[T]) -> Result<List<T>, NoMemory>
+    ensures { IfOk result (λ copies. copies ≡ items.now) }
+{
+    let mut copies = Vec::with_capacity(alloc, items.len())?;
+    for item in items {
+        copies.push(item.copy(alloc)?)?;
+    }
+    Ok(List::from_vec(copies))
 }

@@ -1,13 +1,17 @@
 // What no clause says: that a call succeeds, and that the clauses mean what one expects of a text,
 // a list, a copy and a printed value.
-ghost use Rattle.std.specs.Prelude.{◌≡◌, ◌+◌, [], ◌∷◌, IfOk};
-ghost use Rattle.vt_base.specs.Names.{IsNamed};
+ghost use Rattle.std.specs.Prelude.{◌≡◌, ◌+◌, ◌^◌, ◌-◌, [], ◌∷◌, Some, None, IfOk, pos, negsuc};
+ghost use Rattle.vt_base.specs.Names.{IsNamed, AreNamed};
+ghost use Rattle.vt_base.specs.Aggregate.{aggregate_of};
+ghost use Rattle.vt_base.specs.declared.aggregate.AggKind.TheVariants.{Sum, Min, Max};
+ghost use Rattle.vt_base.specs.declared.value.Value.TheVariants as value;
 
 use crate::{
-    AttrId, ClassId, Kind, List, Names, NoMemory, ObjId, PatternId, Plain, RefId, Roomy, RuleId,
-    Steps, Text, Value, write_value,
+    AggKind, AttrId, ClassId, Kind, List, Names, NoMemory, ObjId, PatternId, Plain, RefId, Roomy,
+    Rows, RuleId, Steps, Text, Tuple, Value, write_tuple, write_value,
 };
 use std::alloc::Global;
+use std::cmp::Ordering;
 use std::fmt::Debug;
 use std::marker::Brand;
 use std::process::Abort;
@@ -127,6 +131,117 @@ fn values_are_ordered_by_kind_and_then_by_size(rt: HostRuntime) -> Result<(), Fa
     Ok(())
 }
 
+// A tuple of whole numbers.
+fn numbers(alloc: Global, items: &[i64]) -> Result<Tuple, NoMemory> {
+    let mut values = List::new(alloc);
+    for n in items {
+        values.add(Value::Int(*n))?;
+    }
+    Tuple::from_slice(alloc, values.as_slice())
+}
+
+// At the first place that differs the smaller number comes first, and else the shorter tuple.
+fn ascending_tuples(alloc: Global) -> Result<List<Tuple>, NoMemory> {
+    let mut tuples = List::new(alloc);
+    let items: [&[i64]; 7] = [&[], &[-1, 5, 5], &[0], &[0, 0], &[0, 1], &[1], &[10, 2]];
+    for item in items {
+        tuples.add(numbers(alloc, item)?)?;
+    }
+    Ok(tuples)
+}
+
+fn assert_compared(rt: &impl Abort, t: &Tuple, other: &Tuple, wanted: Ordering) {
+    assert_eq!(rt; t.cmp(other), wanted);
+    assert_eq!(rt; t == other, wanted.is_eq());
+}
+
+#[test]
+fn tuples_are_ordered_value_by_value(rt: HostRuntime) -> Result<(), Fail> {
+    let tuples = ascending_tuples(rt.alloc())?;
+    for (i, t) in tuples.as_slice().iter().enumerate() {
+        for (j, other) in tuples.as_slice().iter().enumerate() {
+            assert_compared(&rt, t, other, i.cmp(&j));
+        }
+    }
+    Ok(())
+}
+
+#[test]
+fn a_tuple_has_the_values_that_it_is_made_of(rt: HostRuntime) -> Result<(), Fail> {
+    let t = numbers(rt.alloc(), &[3, 4])?.copy(rt.alloc())?;
+    assert_eq!(rt; t.as_slice(), [Value::Int(3), Value::Int(4)].as_slice());
+    assert_eq!(rt; t.get(1), Some(&Value::Int(4)));
+    assert_eq!(rt; t.get(2), None);
+    assert_eq!(rt; t.len(), 2);
+    assert!(rt; !t.is_empty());
+    Ok(())
+}
+
+// The rows of a list that has each tuple five times, in falling order.
+fn rows_of(alloc: Global, tuples: &[Tuple]) -> Result<Rows, NoMemory> {
+    let mut given = Vec::new(alloc);
+    for _ in 0..5 {
+        for t in tuples.iter().rev() {
+            given.push(t.copy(alloc)?)?;
+        }
+    }
+    Rows::from_vec(given)
+}
+
+#[test]
+fn rows_ascend_and_none_comes_twice(rt: HostRuntime) -> Result<(), Fail> {
+    let tuples = ascending_tuples(rt.alloc())?;
+    let rows = rows_of(rt.alloc(), tuples.as_slice())?;
+    assert_eq!(rt; rows.as_slice(), tuples.as_slice());
+    assert_eq!(rt; rows.get(6), tuples.get(6));
+    assert_eq!(rt; rows.get(7), None);
+    assert_eq!(rt; rows.len(), 7);
+    assert!(rt; !rows.is_empty());
+    assert!(rt; Rows::new(rt.alloc()).is_empty());
+    Ok(())
+}
+
+#[test]
+fn rows_contain_what_they_were_made_of_alone(rt: HostRuntime) -> Result<(), Fail> {
+    let tuples = ascending_tuples(rt.alloc())?;
+    let rows = rows_of(rt.alloc(), tuples.as_slice())?;
+    for t in tuples.as_slice() {
+        assert!(rt; rows.contains(t));
+    }
+    let others: [&[i64]; 5] = [&[-1], &[0, 2], &[1, 0], &[10], &[11]];
+    for other in others {
+        assert!(rt; !rows.contains(&numbers(rt.alloc(), other)?));
+    }
+    Ok(())
+}
+
+// Columns of rows, and what they come to.
+fn a_column_comes_to_this()
+    ensures no_rows { aggregate_of Sum [] 0 ≡ Some (value.Int (pos 0)) }
+    ensures sum { aggregate_of Sum
+        ((value.Int (pos 9) ∷ value.Int (pos 4) ∷ [])
+        ∷ (value.Int (pos 9) ∷ value.Int (negsuc 5) ∷ [])
+        ∷ []) 1 ≡ Some (value.Int (negsuc 1)) }
+    ensures greatest_sum { aggregate_of Sum
+        ((value.Int (pos (2 ^ 63 - 1)) ∷ []) ∷ (value.Int (pos 0) ∷ []) ∷ []) 0
+        ≡ Some (value.Int (pos (2 ^ 63 - 1))) }
+    ensures too_great { aggregate_of Sum
+        ((value.Int (pos (2 ^ 63 - 1)) ∷ []) ∷ (value.Int (pos 1) ∷ []) ∷ []) 0 ≡ None }
+    ensures too_small { aggregate_of Sum
+        ((value.Int (negsuc (2 ^ 63 - 1)) ∷ []) ∷ (value.Int (negsuc 0) ∷ []) ∷ []) 0 ≡ None }
+    ensures back_in_range { aggregate_of Sum
+        ((value.Int (pos (2 ^ 63 - 1)) ∷ []) ∷ (value.Int (pos 1) ∷ []) ∷ (value.Int (negsuc 0) ∷ []) ∷ []) 0
+        ≡ Some (value.Int (pos (2 ^ 63 - 1))) }
+    ensures least { aggregate_of Min
+        ((value.Int (pos 2) ∷ []) ∷ (value.Int (negsuc 0) ∷ []) ∷ (value.Int (pos 1) ∷ []) ∷ []) 0
+        ≡ Some (value.Int (negsuc 0)) }
+    ensures greatest { aggregate_of Max
+        ((value.Int (pos 2) ∷ []) ∷ (value.Int (negsuc 0) ∷ []) ∷ (value.Text [] ∷ []) ∷ []) 0
+        ≡ Some (value.Text []) }
+    ensures no_least { aggregate_of Min [] 0 ≡ None }
+    ensures no_greatest { aggregate_of Max [] 0 ≡ None }
+{}
+
 fn assert_copied<T: Plain + Copy + PartialEq + Debug>(
     rt: &impl Abort,
     alloc: Global,
@@ -155,6 +270,7 @@ fn a_copy_equals_its_source(rt: HostRuntime) -> Result<(), Fail> {
     assert_copied(&rt, alloc, (AttrId(3), RefId(4)))?;
     assert_copied(&rt, alloc, (PatternId(5), RuleId(6)))?;
     assert_copied(&rt, alloc, (Some(Kind::Enum(7)), None::<Kind>))?;
+    assert_copied(&rt, alloc, AggKind::Max)?;
     let copies = two_files(alloc)?.copy(alloc)?;
     assert_eq!(rt; copies.len(), 2);
     let wanted = [("a.json", b"{}".as_slice()), ("é", b"".as_slice())];
@@ -277,6 +393,42 @@ fn a_text_prints_as_json_writes_a_string(rt: HostRuntime) -> Result<(), Fail> {
         let value = Value::Text(Text::new(rt.alloc(), value)?);
         assert_printed(&rt, rt.alloc(), &names, value, text.as_bytes())?;
     }
+    Ok(())
+}
+
+// Writes a tuple after a mark.
+fn assert_tuple_printed<N: Names>(
+    rt: &impl Abort,
+    alloc: Global,
+    names: &N,
+    values: &[Value],
+    text: &[u8],
+) -> Result<(), NoMemory>
+    requires { AreNamed (N.enums names.now) (N.objects names.now) values.now }
+{
+    let mut out = List::new(alloc);
+    out.extend(b"> ")?;
+    let t = Tuple::from_slice(alloc, values)?;
+    write_tuple(alloc, &t, names, &mut out)?;
+    assert_eq!(rt; out.as_slice(), text);
+    Ok(())
+}
+
+#[test]
+fn a_tuple_prints_its_values_in_brackets(rt: HostRuntime) -> Result<(), Fail> {
+    let alloc = rt.alloc();
+    let names = two_names(alloc)?;
+    assert_tuple_printed(&rt, alloc, &names, &[], b"> ()")?;
+    assert_tuple_printed(&rt, alloc, &names, &[Value::Int(-1)], b"> (-1)")?;
+    let text = Value::Text(Text::new(alloc, "a, b")?);
+    let values = [
+        Value::Bool(true),
+        text,
+        Value::Enum(0, 1),
+        Value::Obj(ObjId(7)),
+    ];
+    let printed = b"> (true, \"a, b\", Size::LARGE, room.1)";
+    assert_tuple_printed(&rt, alloc, &names, &values, printed)?;
     Ok(())
 }
 

@@ -1,6 +1,9 @@
-// Values, and the kinds that they have.
+// Values, their order, and the kinds that they have.
+ghost use Rattle.std.specs.Prelude.{◌≡◌};
+ghost use Rattle.vt_base.specs.Order.{value_cmp};
 
 use crate::{ObjId, Text};
+use std::cmp::Ordering;
 
 /// A value of an attribute, or an object. The order of the variants is the order of values of
 /// different kinds; within a kind it is false before true, by size, by bytes, by pair, by number.
@@ -12,6 +15,15 @@ pub enum Value {
     /// The number of an enum, and of a literal of it.
     Enum(u16, u16),
     Obj(ObjId),
+}
+
+impl Value {
+    /// The order of values, which `cmp` gives too.
+    pub fn compare(&self, other: &Value) -> Ordering
+        ensures { result ≡ value_cmp self.now other.now }
+    {
+        self.cmp(other)
+    }
 }
 
 /// What sort of value an attribute takes, or a variable stands for.

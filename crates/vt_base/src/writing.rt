@@ -1,11 +1,13 @@
-// Printing a value.
-ghost use Rattle.std.specs.Prelude.{◌≡◌, ◌++◌, Some, IfOk, OnOk, OnErr, string_bytes};
+// Printing a value, and a tuple.
+ghost use Rattle.std.specs.Prelude.{◌≡◌, ◌++◌, codes, Some, IfOk, OnOk, OnErr, string_bytes};
+ghost use Rattle.std.specs.List.{join_by};
 ghost use Rattle.serde_json.specs.Data.{string};
 ghost use Rattle.serde_json.specs.Written.{compact_text};
-ghost use Rattle.vt_base.specs.Names.{IsNamed, literal_names};
-ghost use Rattle.vt_base.specs.Written.{value_text, literal_text, AppendsFront};
+ghost use Rattle.vt_base.specs.Names.{IsNamed, AreNamed, literal_names};
+ghost use Rattle.vt_base.specs.Written.{value_text, tuple_text, literal_text, AppendsFront};
+ghost use Rattle.vt_base.specs.Inside.Further.{further_text};
 
-use crate::{List, Names, NoMemory, Text, Value};
+use crate::{List, Names, NoMemory, Text, Tuple, Value};
 use itoa::Buffer;
 use std::alloc::Global;
 
@@ -62,4 +64,88 @@ pub fn write_value<N: Names>(
             None => Ok(()),
         },
     }
+}
+
+// A comma, a space and a value.
+fn write_next<N: Names>(
+    alloc: Global,
+    value: &Value,
+    names: &N,
+    out: &mut List<u8>,
+) -> Result<(), NoMemory>
+    requires named { IsNamed (N.enums names.now) (N.objects names.now) value.now }
+    ensures added { OnOk result
+        (out.new ≡ out.old
+        ++ (codes ", " ++ value_text (N.enums names.now) (N.objects names.now) value.now)) }
+    ensures front { OnErr result
+        (AppendsFront out.old out.new
+        (codes ", " ++ value_text (N.enums names.now) (N.objects names.now) value.now)) }
+{
+    out.extend(b", ")?;
+    write_value(alloc, value, names, out)
+}
+
+// Values after the first.
+fn write_further<N: Names>(
+    alloc: Global,
+    values: &[Value],
+    names: &N,
+    out: &mut List<u8>,
+) -> Result<(), NoMemory>
+    requires named { AreNamed (N.enums names.now) (N.objects names.now) values.now }
+    ensures added { OnOk result
+        (out.new ≡ out.old ++ further_text (N.enums names.now) (N.objects names.now) values.now) }
+    ensures front { OnErr result
+        (AppendsFront out.old out.new
+        (further_text (N.enums names.now) (N.objects names.now) values.now)) }
+{
+    for value in values {
+        write_next(alloc, value, names, out)?;
+    }
+    Ok(())
+}
+
+// The values of a tuple, with a comma and a space between two.
+fn write_values<N: Names>(
+    alloc: Global,
+    t: &Tuple,
+    names: &N,
+    out: &mut List<u8>,
+) -> Result<(), NoMemory>
+    requires named { AreNamed (N.enums names.now) (N.objects names.now) t.now }
+    ensures added { OnOk result
+        (out.new ≡ out.old
+        ++ join_by (value_text (N.enums names.now) (N.objects names.now)) (codes ", ") t.now) }
+    ensures front { OnErr result
+        (AppendsFront out.old out.new
+        (join_by (value_text (N.enums names.now) (N.objects names.now)) (codes ", ") t.now)) }
+{
+    match t.as_slice().split_first() {
+        None => Ok(()),
+        Some((first, rest)) => {
+            write_value(alloc, first, names, out)?;
+            write_further(alloc, rest, names, out)
+        }
+    }
+}
+
+/// Appends the text of a tuple: its values in round brackets, with a comma and a space between two.
+pub fn write_tuple<N: Names>(
+    alloc: Global,
+    t: &Tuple,
+    names: &N,
+    out: &mut List<u8>,
+) -> Result<(), NoMemory>
+    requires named { AreNamed (N.enums names.now) (N.objects names.now) t.now }
+    ensures added { OnOk result
+        (out.new ≡ out.old ++ tuple_text (N.enums names.now) (N.objects names.now) t.now) }
+
+    // After want of memory a front of the text may stand there.
+    ensures front { OnErr result
+        (AppendsFront out.old out.new
+        (tuple_text (N.enums names.now) (N.objects names.now) t.now)) }
+{
+    out.extend(b"(")?;
+    write_values(alloc, t, names, out)?;
+    out.extend(b")")
 }
