@@ -1,11 +1,9 @@
 -- A prefix of the text of a prepared outcome is one of the due text, or of the line of a failed fetch.
-use Rattle.std.proofs.Common.{◌≡◌, ℕ, List, Option, Some, None, subst, inl, inr, ap}
-use Rattle.std.specs.Prelude.{IfSome, ◌⊎◌}
-use Rattle.vt_outside.specs.Faults.{Rose}
+use Rattle.std.proofs.Common.{ℕ, List, Option, Some, None, subst, inl, inr}
+use Rattle.std.specs.Prelude.{IfSome}
 use Rattle.vt_outside.specs.Sink.{AppendsPrefix}
 use Rattle.vt_cli.specs.Answer.{WritesFront}
-use Rattle.vt_cli.specs.Inside.Prepared.{Prepares, unread}
-use Rattle.vt_cli.specs.declared.ending.Role.{Role}
+use Rattle.vt_cli.specs.Inside.Prepared.{Prepares}
 use Rattle.vt_cli.specs.declared.ending.Outcome.{Outcome}
 
 -- what follows where there is a value

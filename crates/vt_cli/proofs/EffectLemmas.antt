@@ -1,8 +1,7 @@
 -- What a change comes to once its names are looked up.
-use Rattle.std.proofs.Common.{◌≡◌, ℕ, List, Bool, true, false, Option, Some, None, refl}
+use Rattle.std.proofs.Common.{◌≡◌, ℕ, List, true, false, Some, None, refl}
 use Rattle.std.specs.Prelude.{Ok, Err}
 use Rattle.vt_base.specs.declared.numbers.RefId.{RefId}
-use Rattle.vt_base.specs.declared.value.Kind.{Kind}
 use Rattle.vt_meta.specs.Metamodel.{Metamodel, feature}
 use Rattle.vt_meta.specs.Model.{Model, object_named}
 use Rattle.vt_meta.specs.Assigning.{Assigned, assigned, value_given, with_value}

@@ -1,5 +1,5 @@
 -- Values that are pushed one after the other.
-use Rattle.std.proofs.Common.{◌≡◌, List, [], ◌∷◌, ◌++◌, refl, ap, sym, ◌∙◌, Vec, Global, ℕ, length, Bool, true, false}
+use Rattle.std.proofs.Common.{◌≡◌, List, [], ◌∷◌, ◌++◌, refl, ap, sym, ◌∙◌, Vec, Global, ℕ, length, false}
 use Rattle.std.specs.Prelude.{◌==◌}
 use Rattle.serde_json.specs.Data.{Items, no_items, item, array, Members, put}
 use Rattle.serde_json.specs.declared.value.Value.{Value, Array}

@@ -14,7 +14,7 @@ use Rattle.vt_meta.specs.declared.metamodel.RefInfo.{RefInfo}
 use Rattle.vt_meta.specs.declared.model.Object.{Object}
 use Rattle.vt_meta.specs.declared.model.AttributeValue.{AttributeValue}
 use Rattle.vt_meta.specs.declared.model.Link.{Link}
-use Rattle.vt_cli.specs.Dump.{attribute_name, value_data, attribute_members, values_of, links_of, texts, target_names, with_targets, link_members, object_data, objects_data, model_data}
+use Rattle.vt_cli.specs.Dump.{attribute_name, value_data, attribute_members, values_of, links_of, texts, target_names, with_targets, link_members, objects_data, model_data}
 
 -- ---- tests
 

@@ -1,5 +1,5 @@
 -- How an ending and what was written stand to what is due.
-use Rattle.std.specs.Prelude.{◌≡◌, ◌⊎◌, ◌≤◌, ℕ, List, length, All, IsSomeAnd, Option}
+use Rattle.std.specs.Prelude.{◌⊎◌, ◌≤◌, ℕ, List, length, All, IsSomeAnd, Option}
 use Rattle.vt_outside.specs.Shelf.{NamedFiles, file_at}
 use Rattle.vt_outside.specs.Faults.{Rose}
 use Rattle.vt_outside.specs.Sink.{AppendsPrefix}

@@ -1,5 +1,5 @@
 -- The text of a model: its document, with all keys.
-use Rattle.std.specs.Prelude.{ℕ, ◌+◌, ◌==◌, ◌&&◌, List, [], ◌∷◌, ◌++◌, map, filter, find, slice_get, codes, if◌then◌else◌, Option, Some, None, option_map, unwrap_or}
+use Rattle.std.specs.Prelude.{ℕ, ◌+◌, ◌==◌, List, [], ◌∷◌, map, filter, find, slice_get, codes, option_map, unwrap_or}
 use Rattle.serde_json.specs.Data.{Data, null, boolean, number, unsigned, string, array, object, Items, no_items, item, Members, no_members, member, put}
 use Rattle.serde_json.specs.Find.{of_integer}
 use Rattle.serde_json.specs.Written.{compact_text}
@@ -17,17 +17,21 @@ use Rattle.vt_meta.specs.declared.model.Link.{Link}
 
 -- ---- names
 
+-- the name of the class with this number
 abbrev pub class_name : Metamodel → ClassId → List ℕ
 class_name meta c = unwrap_or (option_map (λ info. info.name) (slice_get meta.classes c.0)) []
 
+-- the name of the attribute with this number
 abbrev pub attribute_name : Metamodel → AttrId → List ℕ
 attribute_name meta a = unwrap_or (option_map (λ info. info.name) (slice_get meta.attributes a.0)) []
 
+-- the name of the object with this number
 abbrev pub name_of : Model → ObjId → List ℕ
 name_of g o = unwrap_or (option_map (λ object. object.name) (find (λ object. object.number.0 == o.0) g.live)) []
 
 -- ---- attributes
 
+-- the attribute values of an object
 abbrev pub values_of : Model → ObjId → List AttributeValue
 values_of g o = filter (λ t. t.object.0 == o.0) g.values
 
@@ -47,6 +51,7 @@ attribute_members meta members (t ∷ ts) =
 
 -- ---- links
 
+-- the links that lead from an object
 abbrev pub links_of : Model → ObjId → List Link
 links_of g o = filter (λ link. link.source.0 == o.0) g.links
 
@@ -54,6 +59,7 @@ links_of g o = filter (λ link. link.source.0 == o.0) g.links
 abbrev pub target_names : Model → ℕ → List Link → List (List ℕ)
 target_names g r links = map (λ link. name_of g link.target) (filter (λ link. link.reference.0 == r) links)
 
+-- a list of names
 abbrev pub texts : List (List ℕ) → Items
 texts [] = no_items
 texts (name ∷ names) = item (string name) (texts names)
@@ -71,6 +77,7 @@ link_members g links members r (info ∷ infos) =
 
 -- ---- the document
 
+-- an object with all its keys, which rise
 abbrev pub object_data : Metamodel → Model → Object → Data
 object_data meta g o = object
     (member (codes "attributes") (object (attribute_members meta no_members (values_of g o.number)))
@@ -85,6 +92,7 @@ abbrev pub objects_data : Metamodel → Model → List Object → Items
 objects_data meta g [] = no_items
 objects_data meta g (o ∷ os) = item (object_data meta g o) (objects_data meta g os)
 
+-- the document with all its keys, which rise
 unfoldable pub model_data : Metamodel → Model → Data
 model_data meta g = object
     (member (codes "format") (number (unsigned 1))

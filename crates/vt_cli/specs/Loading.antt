@@ -38,6 +38,7 @@ changes_of document = creations 0 document.objects ++ flat_map assignments docum
 
 -- ---- the first fault
 
+-- why a document makes no model
 pub data Fault : Type 0 where
   not_json : Fault
   bad_shape : Fault
@@ -48,10 +49,12 @@ abbrev pub finished : ℕ → Result Model Stop → Result Model Fault
 finished next (Err stop) = Err not_built
 finished next (Ok g) = Ok (record g { next = next })
 
+-- a document without its shape is refused before any change is tried
 abbrev pub judged : Metamodel → Option ModelDocument → Result Model Fault
 judged meta None = Err bad_shape
 judged meta (Some document) = finished document.next (transaction meta empty_model (changes_of document))
 
+-- bytes that are no JSON have no shape to ask for
 abbrev pub shaped : Metamodel → Option Data → Result Model Fault
 shaped meta None = Err not_json
 shaped meta (Some d) = judged meta (document_shape d)

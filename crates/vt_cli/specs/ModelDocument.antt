@@ -13,9 +13,11 @@ use Rattle.vt_cli.specs.declared.document.ModelDocument.{ModelDocument}
 
 -- ---- objects
 
+-- what null stands for
 abbrev pub unset : Entry
 unset = record { given = None }
 
+-- what any other value stands for
 abbrev pub given_value : Given → Entry
 given_value v = record { given = Some v }
 
@@ -28,6 +30,7 @@ entry_shape (string s) = Some (given_value (given.Text s))
 entry_shape (array ds) = None
 entry_shape (object ms) = None
 
+-- an object has these keys, and no other
 abbrev pub object_shape : Data → Option ObjectDocument
 object_shape d = if has_only (codes "name" ∷ codes "class" ∷ codes "number" ∷ codes "attributes" ∷ codes "links" ∷ []) d then (do
   name ← required (codes "name") object_name d
@@ -62,6 +65,7 @@ with_next objects next =
 
 -- ---- the document
 
+-- a document has these keys, and no other
 abbrev pub document_shape : Data → Option ModelDocument
 document_shape d = if has_only (codes "format" ∷ codes "next" ∷ codes "objects" ∷ []) d && has_format_one d then (do
   next ← optional (codes "next") whole_number d

@@ -30,6 +30,7 @@ with_file role (Some bytes) rest = if nat_lt file_limit (length bytes)
 abbrev pub refused : Role → ℕ → List ℕ → ℕ → Outcome
 refused role code name place = record { ending = BadInput role code place; text = input_line role name place }
 
+-- a model's dump and a line's end, or the line that tells its fault
 abbrev pub shown_model : Metamodel → Result Model model.Fault → Outcome
 shown_model meta (Ok g) = record { ending = Done; text = dump meta g ++ 10 ∷ [] }
 shown_model meta (Err model.not_json) = refused role.Model 1 (codes "NotJson") 0
@@ -43,6 +44,7 @@ shown_meta (Err (metamodel.bad_shape place)) bytes = refused role.Metamodel 2 (c
 shown_meta (Err (metamodel.not_built place)) bytes = refused role.Metamodel 90 (codes "NotBuilt") place
 shown_meta (Ok meta) bytes = shown_model meta (loaded meta bytes)
 
+-- the words are no command
 abbrev pub usage : Outcome
 usage = record { ending = Usage; text = usage_line }
 
@@ -54,5 +56,6 @@ due_to (Some (show first second)) files =
     with_file role.Model (file_at files second) (λ model_bytes.
     shown_meta (meta_of meta_bytes) model_bytes))
 
+-- what is due to the words over these files
 abbrev pub due : List (List ℕ) → NamedFiles → Outcome
 due words files = due_to (command_of words) files

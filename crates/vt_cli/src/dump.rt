@@ -74,7 +74,8 @@ fn attributes_data(
     model: &PlainModel,
     owner: ObjId,
 ) -> Result<Value, NoMemory>
-    ensures { IfOk result (λ v. view v ≡ object (attribute_members meta.now no_members (values_of model.now owner))) }
+    ensures { IfOk result (λ v.
+        view v ≡ object (attribute_members meta.now no_members (values_of model.now owner))) }
 {
     let mut members = Map::new(alloc);
     for held in model.values() {
@@ -104,7 +105,8 @@ fn links_of(alloc: Global, model: &PlainModel, owner: ObjId) -> Result<List<Link
 
 #[tactic(auto, using(crate::proofs::JoinedLemmas::joined_push))]
 fn push_item(values: &mut Vec<Value>, value: Value) -> Result<(), NoMemory>
-    ensures { OnOk result ((rest : Items) → joined values.new.items rest ≡ joined values.old.items (item (view value) rest)) }
+    ensures { OnOk result ((rest : Items)
+        → joined values.new.items rest ≡ joined values.old.items (item (view value) rest)) }
 {
     serde_json::push(values, value)?;
     Ok(())
@@ -124,7 +126,8 @@ fn target_items(
     links: &[Link],
     reference: usize,
 ) -> Result<Vec<Value>, NoMemory>
-    ensures { IfOk result (λ values. joined values.items no_items ≡ texts (target_names model.now reference links.now)) }
+    ensures { IfOk result (λ values.
+        joined values.items no_items ≡ texts (target_names model.now reference links.now)) }
 {
     let mut values = Vec::new(alloc);
     for link in links {
@@ -143,7 +146,8 @@ fn put_targets(
     key: &str,
     targets: Vec<Value>,
 ) -> Result<(), NoMemory>
-    ensures { OnOk result (members_view members.new.entries ≡ with_targets key.now (joined targets.items no_items) (members_view members.old.entries)) }
+    ensures { OnOk result (members_view members.new.entries
+        ≡ with_targets key.now (joined targets.items no_items) (members_view members.old.entries)) }
 {
     if targets.is_empty() {
         return Ok(());
@@ -159,7 +163,8 @@ fn links_data(
     model: &PlainModel,
     links: &[Link],
 ) -> Result<Value, NoMemory>
-    ensures { IfOk result (λ v. view v ≡ object (link_members model.now links.now no_members 0 references.now)) }
+    ensures { IfOk result (λ v.
+        view v ≡ object (link_members model.now links.now no_members 0 references.now)) }
 {
     let mut members = Map::new(alloc);
     for (r, info) in references.iter().enumerate() {
@@ -179,8 +184,10 @@ fn object_of_parts(
     attributes: Value,
     links: Value,
 ) -> Result<Value, AllocError>
-    requires attributes { view attributes ≡ object (attribute_members meta.now no_members (values_of model.now described.now.number)) }
-    requires links { view links ≡ object (link_members model.now (links_of model.now described.now.number) no_members 0 meta.now.references) }
+    requires attributes { view attributes
+        ≡ object (attribute_members meta.now no_members (values_of model.now described.now.number)) }
+    requires links { view links
+        ≡ object (link_members model.now (links_of model.now described.now.number) no_members 0 meta.now.references) }
     ensures { IfOk result (λ v. view v ≡ object_data meta.now model.now described.now) }
 {
     let class = class_name(meta, described.class);

@@ -66,7 +66,8 @@ fn add_entries(
     name: &ObjectName,
     entries: &[(Text, Entry)],
 ) -> Result<(), NoMemory>
-    ensures { OnOk result (changes.new ≡ changes.old ++ map (λ e. assignment name.now e.0 e.1.given) entries.now) }
+    ensures { OnOk result (changes.new
+        ≡ changes.old ++ map (λ e. assignment name.now e.0 e.1.given) entries.now) }
 {
     for (attribute, entry) in entries {
         changes.add(assignment(name, attribute, entry))?;
@@ -89,7 +90,8 @@ fn add_targets(
     reference: &Text,
     targets: &[ObjectName],
 ) -> Result<(), NoMemory>
-    ensures { OnOk result (changes.new ≡ changes.old ++ map (λ target. change.Link name.now reference.now target) targets.now) }
+    ensures { OnOk result (changes.new
+        ≡ changes.old ++ map (λ target. change.Link name.now reference.now target) targets.now) }
 {
     for target in targets {
         changes.add(Change::Link {
@@ -106,7 +108,8 @@ fn add_object_links(
     name: &ObjectName,
     links: &[(Text, List<ObjectName>)],
 ) -> Result<(), NoMemory>
-    ensures { OnOk result (changes.new ≡ changes.old ++ flat_map (λ e. map (λ target. change.Link name.now e.0 target) e.1) links.now) }
+    ensures { OnOk result (changes.new ≡ changes.old
+        ++ flat_map (λ e. map (λ target. change.Link name.now e.0 target) e.1) links.now) }
 {
     for (reference, targets) in links {
         add_targets(changes, name, reference, targets.as_slice())?;
@@ -140,7 +143,8 @@ fn changes_of(alloc: Global, document: &ModelDocument) -> Result<List<Change>, N
 // The model after all changes, or the first fault of one.
 fn transact(alloc: Global, meta: &Metamodel, changes: &[Change]) -> Result<PlainModel, ChangeFault>
     ensures made { IfOk result (λ model. transaction meta.now empty_model changes.now ≡ Ok model) }
-    ensures refused { IfErr result (λ fault. Stops fault (transaction meta.now empty_model changes.now)) }
+    ensures refused { IfErr result (λ fault.
+        Stops fault (transaction meta.now empty_model changes.now)) }
 {
     let mut model = PlainModel::new(alloc);
     for change in changes {
@@ -158,7 +162,8 @@ fn build(
     requires rises { rise 0 document.now.objects ≡ true }
     requires few { document.now.next ≤ 1048576 }
     ensures accepted { IfOk result (λ model. judged meta.now (Some document.now) ≡ Ok model) }
-    ensures refused { IfErr result (λ fault. IsFaultOf fault (judged meta.now (Some document.now))) }
+    ensures refused { IfErr result (λ fault.
+        IsFaultOf fault (judged meta.now (Some document.now))) }
 {
     let Ok(changes) = changes_of(alloc, document) else {
         return Err(ModelFault::NoMemory);

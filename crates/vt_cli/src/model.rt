@@ -120,7 +120,8 @@ fn add_defaults(
     attributes: &[AttrInfo],
 ) -> Result<(), NoMemory>
     requires { length attributes.now ≤ 4096 }
-    ensures { OnOk result (values.new.items ≡ values.old.items ++ defaults_from class object 0 attributes.now) }
+    ensures { OnOk result (values.new.items
+        ≡ values.old.items ++ defaults_from class object 0 attributes.now) }
 {
     for (a, info) in attributes.iter().enumerate() {
         if info.class == class
@@ -152,7 +153,8 @@ fn value_given(kind: Kind, given: &Given) -> Option<Value>
 
 // The attribute that a feature is, with the value that is given to it.
 fn value_to_set(meta: &Metamodel, feature: Feature, given: &Given) -> Option<(AttrId, Value)>
-    ensures { option_map (λ p. record { attribute = p.0; value = p.1 }) result ≡ assigned meta.now (λ k. value_given k given.now) (Some feature) }
+    ensures { option_map (λ p. record { attribute = p.0; value = p.1 }) result
+        ≡ assigned meta.now (λ k. value_given k given.now) (Some feature) }
 {
     let Feature::Attr(a) = feature else {
         return None;
@@ -163,7 +165,8 @@ fn value_to_set(meta: &Metamodel, feature: Feature, given: &Given) -> Option<(At
 
 // The attribute that a feature is, with its default.
 fn value_to_unset(meta: &Metamodel, feature: Feature) -> Option<(AttrId, Value)>
-    ensures { option_map (λ p. record { attribute = p.0; value = p.1 }) result ≡ assigned meta.now default_value (Some feature) }
+    ensures { option_map (λ p. record { attribute = p.0; value = p.1 }) result
+        ≡ assigned meta.now default_value (Some feature) }
 {
     let Feature::Attr(a) = feature else {
         return None;
@@ -180,7 +183,8 @@ fn put_if_held(
     attribute: AttrId,
     value: &Value,
 ) -> Result<(), NoMemory>
-    ensures { OnOk result (held.new ≡ (if is_value_of object attribute held.old then record held.old { value = value.now } else held.old)) }
+    ensures { OnOk result (held.new ≡ (if is_value_of object attribute held.old
+        then record held.old { value = value.now } else held.old)) }
 {
     if held.object == object && held.attribute == attribute {
         held.value = value.copy(alloc)?;
@@ -196,7 +200,8 @@ fn put_value(
     attribute: AttrId,
     value: &Value,
 ) -> Result<(), NoMemory>
-    ensures { OnOk result (values.new ≡ map (λ t. if is_value_of object attribute t then record t { value = value.now } else t) values.old) }
+    ensures { OnOk result (values.new ≡ map (λ t.
+        if is_value_of object attribute t then record t { value = value.now } else t) values.old) }
 {
     for held in values.iter_mut() {
         put_if_held(held, alloc, object, attribute, value)?;
@@ -326,7 +331,8 @@ impl PlainModel {
         number: Option<u32>,
     ) -> Result<(), ChangeFault>
         ensures made { OnOk result (effect meta.now self.old (change.Create name.now class.now number) ≡ Ok self.new) }
-        ensures refused { (why : Refusal) → result ≡ Err (ChangeFault.Refused why) → effect meta.now self.old (change.Create name.now class.now number) ≡ Err why }
+        ensures refused { (why : Refusal) → result ≡ Err (ChangeFault.Refused why)
+            → effect meta.now self.old (change.Create name.now class.now number) ≡ Err why }
     {
         let Some(class) = meta.class_named(class.as_str()) else {
             return Err(ChangeFault::Refused(Refusal::UnknownClass));
@@ -361,8 +367,11 @@ impl PlainModel {
         attribute: &Text,
         given: &Given,
     ) -> Result<Slot, Refusal>
-        ensures made { IfOk result (λ slot. effect meta.now self.now (change.Set name.now attribute.now given.now) ≡ Ok (with_slot self.now slot)) }
-        ensures refused { IfErr result (λ why. effect meta.now self.now (change.Set name.now attribute.now given.now) ≡ Err why) }
+        ensures made { IfOk result (λ slot.
+            effect meta.now self.now (change.Set name.now attribute.now given.now)
+            ≡ Ok (with_slot self.now slot)) }
+        ensures refused { IfErr result (λ why.
+            effect meta.now self.now (change.Set name.now attribute.now given.now) ≡ Err why) }
     {
         let Some(object) = self.object_named(name) else {
             return Err(Refusal::UnknownObject);
@@ -388,8 +397,11 @@ impl PlainModel {
         name: &Text,
         attribute: &Text,
     ) -> Result<Slot, Refusal>
-        ensures made { IfOk result (λ slot. effect meta.now self.now (change.Unset name.now attribute.now) ≡ Ok (with_slot self.now slot)) }
-        ensures refused { IfErr result (λ why. effect meta.now self.now (change.Unset name.now attribute.now) ≡ Err why) }
+        ensures made { IfOk result (λ slot.
+            effect meta.now self.now (change.Unset name.now attribute.now)
+            ≡ Ok (with_slot self.now slot)) }
+        ensures refused { IfErr result (λ why.
+            effect meta.now self.now (change.Unset name.now attribute.now) ≡ Err why) }
     {
         let Some(object) = self.object_named(name) else {
             return Err(Refusal::UnknownObject);
@@ -416,8 +428,11 @@ impl PlainModel {
         reference: &Text,
         target: &Text,
     ) -> Result<Link, Refusal>
-        ensures made { IfOk result (λ link. effect meta.now self.now (change.Link name.now reference.now target.now) ≡ Ok (with_link self.now link)) }
-        ensures refused { IfErr result (λ why. effect meta.now self.now (change.Link name.now reference.now target.now) ≡ Err why) }
+        ensures made { IfOk result (λ link.
+            effect meta.now self.now (change.Link name.now reference.now target.now)
+            ≡ Ok (with_link self.now link)) }
+        ensures refused { IfErr result (λ why.
+            effect meta.now self.now (change.Link name.now reference.now target.now) ≡ Err why) }
     {
         let Some(source) = self.object_named(name) else {
             return Err(Refusal::UnknownObject);
@@ -462,7 +477,8 @@ impl PlainModel {
         given: &Given,
     ) -> Result<(), ChangeFault>
         ensures made { OnOk result (effect meta.now self.old (change.Set name.now attribute.now given.now) ≡ Ok self.new) }
-        ensures refused { (why : Refusal) → result ≡ Err (ChangeFault.Refused why) → effect meta.now self.old (change.Set name.now attribute.now given.now) ≡ Err why }
+        ensures refused { (why : Refusal) → result ≡ Err (ChangeFault.Refused why)
+            → effect meta.now self.old (change.Set name.now attribute.now given.now) ≡ Err why }
     {
         let slot = self.slot_to_set(meta, name, attribute, given)?;
         self.fill(alloc, &slot)?;
@@ -476,8 +492,10 @@ impl PlainModel {
         name: &Text,
         attribute: &Text,
     ) -> Result<(), ChangeFault>
-        ensures made { OnOk result (effect meta.now self.old (change.Unset name.now attribute.now) ≡ Ok self.new) }
-        ensures refused { (why : Refusal) → result ≡ Err (ChangeFault.Refused why) → effect meta.now self.old (change.Unset name.now attribute.now) ≡ Err why }
+        ensures made { OnOk result (effect meta.now self.old (change.Unset name.now attribute.now)
+            ≡ Ok self.new) }
+        ensures refused { (why : Refusal) → result ≡ Err (ChangeFault.Refused why)
+            → effect meta.now self.old (change.Unset name.now attribute.now) ≡ Err why }
     {
         let slot = self.slot_to_unset(meta, name, attribute)?;
         self.fill(alloc, &slot)?;
@@ -492,7 +510,8 @@ impl PlainModel {
         target: &Text,
     ) -> Result<(), ChangeFault>
         ensures made { OnOk result (effect meta.now self.old (change.Link name.now reference.now target.now) ≡ Ok self.new) }
-        ensures refused { (why : Refusal) → result ≡ Err (ChangeFault.Refused why) → effect meta.now self.old (change.Link name.now reference.now target.now) ≡ Err why }
+        ensures refused { (why : Refusal) → result ≡ Err (ChangeFault.Refused why)
+            → effect meta.now self.old (change.Link name.now reference.now target.now) ≡ Err why }
     {
         let link = self.link_asked(meta, name, reference, target)?;
         add_link(&mut self.links, link)?;
@@ -507,7 +526,8 @@ impl PlainModel {
         change: &Change,
     ) -> Result<(), ChangeFault>
         ensures made { OnOk result (effect meta.now self.old change.now ≡ Ok self.new) }
-        ensures refused { (why : Refusal) → result ≡ Err (ChangeFault.Refused why) → effect meta.now self.old change.now ≡ Err why }
+        ensures refused { (why : Refusal) → result ≡ Err (ChangeFault.Refused why)
+            → effect meta.now self.old change.now ≡ Err why }
     {
         match change {
             Change::Create {

@@ -37,17 +37,25 @@ fn fetch_file<S: Shelf>(
     role: Role,
     name: &Text,
 ) -> Result<Result<List<u8>, Outcome>, NoMemory>
-    ensures got { IfOk result (λ got. IfSome (S.files shelf.old) (λ files. Got role (file_at files name.now) (S.faults shelf.old) (S.faults shelf.new) got)) }
-    ensures there { IfOk result (λ got. IfOk got (λ _. IfSome (S.files shelf.old) (λ files. AreThere files (name.now ∷ [])))) }
+    ensures got { IfOk result (λ got. IfSome (S.files shelf.old) (λ files.
+        Got role (file_at files name.now) (S.faults shelf.old) (S.faults shelf.new) got)) }
+    ensures there { IfOk result (λ got. IfOk got (λ _. IfSome (S.files shelf.old) (λ files.
+        AreThere files (name.now ∷ [])))) }
     ensures files { S.files shelf.new ≡ S.files shelf.old }
     ensures never_falls { S.faults shelf.old ≤ S.faults shelf.new }
     ensures quiet { IfOk result (λ got. IfOk got (λ _. S.faults shelf.new ≡ S.faults shelf.old)) }
-    ensures quiet_end { IfOk result (λ got. IfErr got (λ outcome. IsDecided outcome.ending → S.faults shelf.new ≡ S.faults shelf.old)) }
+    ensures quiet_end { IfOk result (λ got. IfErr got (λ outcome. IsDecided outcome.ending
+        → S.faults shelf.new ≡ S.faults shelf.old)) }
     ensures ends { IfOk result (λ got. IfErr got (λ outcome. EndsFetch outcome.ending)) }
-    ensures asked { IfOk result (λ got. IfErr got (λ outcome. (asked : Role) → outcome.ending ≡ Ending.ReadFault asked → asked ≡ role)) }
-    ensures rose { IfOk result (λ got. IfErr got (λ outcome. (asked : Role) → outcome.ending ≡ Ending.ReadFault asked → Rose (S.faults shelf.old) (S.faults shelf.new))) }
-    ensures failed { IfOk result (λ got. IfErr got (λ outcome. (asked : Role) → outcome.ending ≡ Ending.ReadFault asked → S.failed shelf.new ≡ Some name.now)) }
-    ensures line { IfOk result (λ got. IfErr got (λ outcome. (asked : Role) → outcome.ending ≡ Ending.ReadFault asked → outcome.text ≡ unreadable_line asked)) }
+    ensures asked { IfOk result (λ got. IfErr got (λ outcome. (asked : Role)
+        → outcome.ending ≡ Ending.ReadFault asked → asked ≡ role)) }
+    ensures rose { IfOk result (λ got. IfErr got (λ outcome. (asked : Role)
+        → outcome.ending ≡ Ending.ReadFault asked
+        → Rose (S.faults shelf.old) (S.faults shelf.new))) }
+    ensures failed { IfOk result (λ got. IfErr got (λ outcome. (asked : Role)
+        → outcome.ending ≡ Ending.ReadFault asked → S.failed shelf.new ≡ Some name.now)) }
+    ensures line { IfOk result (λ got. IfErr got (λ outcome. (asked : Role)
+        → outcome.ending ≡ Ending.ReadFault asked → outcome.text ≡ unreadable_line asked)) }
 {
     match shelf.fetch(alloc, name, FILE_LIMIT) {
         Ok(Fetched::Bytes(bytes)) => Ok(Ok(bytes)),
@@ -82,14 +90,21 @@ pub(crate) fn prepare<S: Shelf>(
     words: &[Text],
     shelf: &mut S,
 ) -> Result<Outcome, NoMemory>
-    ensures told { IfOk result (λ outcome. IfSome (S.files shelf.old) (λ files. Prepares (due words.now files) (S.faults shelf.old) (S.faults shelf.new) outcome)) }
-    ensures usage { IfOk result (λ outcome. (outcome.ending ≡ Ending.Usage) ↔ (command_of words.now ≡ None)) }
-    ensures rose { IfOk result (λ outcome. (file : Role) → outcome.ending ≡ Ending.ReadFault file → Rose (S.faults shelf.old) (S.faults shelf.new)) }
-    ensures failed { IfOk result (λ outcome. (file : Role) → outcome.ending ≡ Ending.ReadFault file → S.failed shelf.new ≡ name_of file (command_of words.now)) }
-    ensures line { IfOk result (λ outcome. (file : Role) → outcome.ending ≡ Ending.ReadFault file → outcome.text ≡ unreadable_line file) }
-    ensures before { IfOk result (λ outcome. (file : Role) → outcome.ending ≡ Ending.ReadFault file → IfSome (S.files shelf.old) (λ files. AreThere files (names_before file (command_of words.now)))) }
+    ensures told { IfOk result (λ outcome. IfSome (S.files shelf.old) (λ files.
+        Prepares (due words.now files) (S.faults shelf.old) (S.faults shelf.new) outcome)) }
+    ensures usage { IfOk result (λ outcome.
+        (outcome.ending ≡ Ending.Usage) ↔ (command_of words.now ≡ None)) }
+    ensures rose { IfOk result (λ outcome. (file : Role) → outcome.ending ≡ Ending.ReadFault file
+        → Rose (S.faults shelf.old) (S.faults shelf.new)) }
+    ensures failed { IfOk result (λ outcome. (file : Role) → outcome.ending ≡ Ending.ReadFault file
+        → S.failed shelf.new ≡ name_of file (command_of words.now)) }
+    ensures line { IfOk result (λ outcome. (file : Role) → outcome.ending ≡ Ending.ReadFault file
+        → outcome.text ≡ unreadable_line file) }
+    ensures before { IfOk result (λ outcome. (file : Role) → outcome.ending ≡ Ending.ReadFault file
+        → IfSome (S.files shelf.old) (λ files. AreThere files (names_before file (command_of words.now)))) }
     ensures planned { IfOk result (λ outcome. IsPlanned outcome.ending) }
-    ensures quiet { IfOk result (λ outcome. IsDecided outcome.ending → S.faults shelf.new ≡ S.faults shelf.old) }
+    ensures quiet { IfOk result (λ outcome. IsDecided outcome.ending
+        → S.faults shelf.new ≡ S.faults shelf.old) }
     ensures never_falls { S.faults shelf.old ≤ S.faults shelf.new }
 {
     let Some((meta, model)) = parse(words) else {
@@ -109,9 +124,12 @@ pub(crate) fn prepare<S: Shelf>(
 /// Writes the text, whose failure is told in place of the ending.
 pub(crate) fn deliver<K: Sink>(out: &mut K, outcome: &Outcome) -> Ending
     requires { IsPlanned outcome.now.ending }
-    ensures kept { (result ≡ outcome.now.ending) ⊎ (result ≡ Ending.NoMemory) ⊎ (result ≡ Ending.WriteFault) }
-    ensures whole { IsPlanned result → Appends (K.written out.old) (K.written out.new) outcome.now.text }
-    ensures front { IsCutShort result → AppendsPrefix (K.written out.old) (K.written out.new) outcome.now.text }
+    ensures kept { (result ≡ outcome.now.ending)
+        ⊎ (result ≡ Ending.NoMemory) ⊎ (result ≡ Ending.WriteFault) }
+    ensures whole { IsPlanned result
+        → Appends (K.written out.old) (K.written out.new) outcome.now.text }
+    ensures front { IsCutShort result
+        → AppendsPrefix (K.written out.old) (K.written out.new) outcome.now.text }
     ensures rose { result ≡ Ending.WriteFault → Rose (K.faults out.old) (K.faults out.new) }
 {
     match out.put(outcome.text.as_slice()) {

@@ -1,5 +1,5 @@
 -- Parts of a change.
-use Rattle.std.specs.Prelude.{◌≡◌, ◌≤◌, ℕ, List, length, insert, Result, Err}
+use Rattle.std.specs.Prelude.{◌≡◌, ◌≤◌, List, length, insert, Result, Err}
 use Rattle.std.specs.BTreeSet.{insert_key}
 use Rattle.vt_meta.specs.Model.{Model}
 use Rattle.vt_meta.specs.Linking.{link_order}
