@@ -1,7 +1,7 @@
 //! The words that every other crate speaks: texts, lists, values, rows, and how a value is printed.
 //!
 //! It stands on `vt_shared`, and prints by `serde_json` and `itoa`. Read `specs/Room.antt`,
-//! `specs/Order.antt`, `specs/Rows.antt`, `specs/Aggregate.antt`, `specs/Names.antt`, then
+//! `specs/Order.antt`, `specs/Rows.antt`, `specs/Aggregate.antt`, `specs/Base.antt`, `specs/Names.antt`, then
 //! `specs/Written.antt`.
 #![tactic(auto)]
 
@@ -20,6 +20,8 @@ mod aggregate;
 mod laws;
 mod rows;
 mod tuple;
+// What queries ask a model for.
+mod base;
 // Printing.
 mod names;
 mod writing;
@@ -43,6 +45,8 @@ pub use laws::{
 };
 pub use rows::Rows;
 pub use tuple::Tuple;
+// What queries ask a model for.
+pub use base::Base;
 // Printing.
 pub use names::Names;
 pub use writing::{write_tuple, write_value};

@@ -47,6 +47,14 @@ impl Rows {
         Ok(Rows { rows })
     }
 
+    /// The set of tuples that ascend already. It takes no memory.
+    pub fn from_ascending(rows: Vec<Tuple>) -> Rows
+        requires ascends { Ascends rows.items }
+        ensures { result.items ≡ rows.items }
+    {
+        Rows { rows }
+    }
+
     /// Whether the tuple is one of the rows.
     pub fn contains(&self, row: &Tuple) -> bool
         ensures { result ≡ has_row self.now.items row.now }
