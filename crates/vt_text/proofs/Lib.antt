@@ -1,4 +1,11 @@
 mod ScanSteps
+mod TestLemmas
+mod FrontLemmas
+mod WordLemmas
+mod StringLemmas
+mod CommentLemmas
+mod MarkLemmas
 mod CutLemmas
 mod SpellingLemmas
+mod LexemeLemmas
 mod ExpressionLemmas

@@ -12,7 +12,8 @@ use Rattle.vt_text.specs.declared.token.TokenKind.{TokenKind}
 use Rattle.vt_text.specs.declared.token.TokenKind.TheVariants.{Word, Blank, Number, Quoted, Mark}
 use Rattle.vt_text.specs.declared.token.Token.{Token}
 use Rattle.vt_text.specs.declared.piece.Cut.{Cut}
-use Rattle.vt_text.proofs.CutLemmas.{Found, Sound, cut_sound, cut_exact}
+use Rattle.vt_text.proofs.FrontLemmas.{Found, Sound}
+use Rattle.vt_text.proofs.CutLemmas.{cut_sound, cut_exact}
 
 -- a piece has a byte
 some_bytes : (kind : Option TokenKind) (bytes rest : List ℕ) → Stands kind bytes rest → 0 < length bytes

@@ -1,7 +1,9 @@
 // What holds of every text.
-ghost use Rattle.std.specs.Prelude.{◌≡◌, ◌⊎◌, ℕ, List};
+ghost use Rattle.std.specs.Prelude.{◌≡◌, ◌⊎◌, ℕ, List, true, is_some};
+ghost use Rattle.vt_text.specs.Lexicon.{IsMark};
 ghost use Rattle.vt_text.specs.Spelling.{Spells, IsBadAt};
 ghost use Rattle.vt_text.specs.Spans.{AreSlices};
+ghost use Rattle.vt_text.specs.Lexemes.{marks, named_in};
 ghost use Rattle.vt_text.specs.declared.token.Token.{Token};
 
 /// A text spells at most one list of tokens.
@@ -27,4 +29,10 @@ pub fn spells_or_is_bad()
 /// The tokens that a text spells are slices of it, one after the other.
 pub fn tokens_are_slices()
     ensures { (text : List ℕ) (tokens : List Token) → Spells text tokens → AreSlices text 0 tokens }
+{}
+
+/// Each mark is in the list of the marks with their symbols.
+#[tactic(auto, using(crate::proofs::LexemeLemmas::each_mark_is_listed))]
+pub fn each_mark_has_a_symbol()
+    ensures { (bytes : List ℕ) → IsMark bytes → is_some (named_in marks bytes) ≡ true }
 {}

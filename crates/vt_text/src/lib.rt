@@ -1,10 +1,11 @@
-//! Tokens of queries and rules, and expressions.
+//! Tokens of queries and rules, their lexemes, and expressions.
 //!
-//! It stands on `vt_base`. Read `specs/Lexicon.antt`, `specs/Spelling.antt`, then
-//! `specs/Expression.antt`.
+//! It stands on `vt_base` and `vt_grammar`. Read `specs/Lexicon.antt`, `specs/Spelling.antt`,
+//! `specs/Lexemes.antt`, then `specs/Expression.antt`.
 #![tactic(auto)]
 
-// The tokens of a text.
+// The tokens of a text, and its lexemes.
+mod lexeme;
 mod lexer;
 mod piece;
 mod token;
@@ -15,13 +16,17 @@ mod expr;
 // What holds of every text.
 mod laws;
 
-// The tokens of a text.
+// The tokens of a text, and its lexemes.
+pub use lexeme::lexemes;
 pub use lexer::tokens;
 pub use token::{Token, TokenFault, TokenKind};
 // Expressions.
 pub use expr::{Expr, Operand, Operator};
 // What holds of every text.
-pub use laws::{bad_spells_nothing, one_bad_line, one_list, spells_or_is_bad, tokens_are_slices};
+pub use laws::{
+    bad_spells_nothing, each_mark_has_a_symbol, one_bad_line, one_list, spells_or_is_bad,
+    tokens_are_slices,
+};
 
 #[cfg(test)]
 mod tests;

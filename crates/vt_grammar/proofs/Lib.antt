@@ -1,0 +1,10 @@
+pub mod Exact
+pub mod PartLemmas
+pub mod ExactLemmas
+pub mod ChoiceLemmas
+pub mod RepetitionLemmas
+pub mod BalancedLemmas
+pub mod ReadingLemmas
+pub mod FaultLemmas
+pub mod RollLemmas
+pub mod WholeLemmas
