@@ -1,5 +1,5 @@
--- Lists in order: one after another, each item changed, one item put in.
-use Rattle.std.proofs.Common.{◌≡◌, List, [], ◌∷◌, ◌++◌, map, refl, ap, ◌∙◌}
+-- Lists in order: one after another, and one item put in.
+use Rattle.std.proofs.Common.{◌≡◌, List, [], ◌∷◌, ◌++◌, refl, ap, ◌∙◌}
 use Rattle.std.specs.Prelude.{All}
 use Rattle.std.specs.List.Sorted.{IsStrictlySortedBy}
 use Rattle.std.specs.Cmp.{IsTotalOrder}
@@ -7,7 +7,7 @@ use Rattle.std.specs.BTreeSet.{insert_key}
 use Rattle.std.specs.Ordering.{match_ordering, ordering_reverse}
 use Rattle.std.specs.declared.cmp.Ordering.{Ordering}
 use Rattle.std.specs.declared.cmp.Ordering.TheVariants.{Less, Equal, Greater}
-use Rattle.std.proofs.lemmas.List.Elements.{All-append, All-head, All-tail, All-map, All-weaker, All-from_recursion, recursion_from_All}
+use Rattle.std.proofs.lemmas.List.Elements.{All-append, All-head, All-tail, All-weaker, All-from_recursion, recursion_from_All}
 use Rattle.std.proofs.lemmas.Map.Views.{All-insert_key}
 
 module _ {K : Type 0} (R : K → K → Ordering) where
@@ -21,15 +21,7 @@ module _ {K : Type 0} (R : K → K → Ordering) where
     IsStrictlySortedBy-append xs ys first.1 second (All-tail (λ z. All (λ y. R z y ≡ Less) ys) x xs below),
   )
 
-  -- a change of each item that the order doesn't see
-  pub IsStrictlySortedBy-map : (f : K → K) → ((x y : K) → R (f x) (f y) ≡ R x y) → (xs : List K) → IsStrictlySortedBy R xs → IsStrictlySortedBy R (map f xs)
-  unfolding IsStrictlySortedBy
-  IsStrictlySortedBy-map f same [] sorted = sorted
-  IsStrictlySortedBy-map f same (x ∷ xs) sorted = (
-    recursion_from_All (λ y. R (f x) y ≡ Less) (map f xs) (All-map (λ y. R (f x) y ≡ Less) f xs (All-weaker (λ y. R x y ≡ Less) (λ y. R (f x) (f y) ≡ Less) (λ y e. same x y ∙ e) xs (All-from_recursion (λ y. R x y ≡ Less) xs sorted.0))),
-    IsStrictlySortedBy-map f same xs sorted.1,
-  )
-
+  -- an item that is put in goes to its place
   pub IsStrictlySortedBy-insert_key : IsTotalOrder R → (xs : List K) (q : K) → IsStrictlySortedBy R xs → IsStrictlySortedBy R (insert_key R xs q)
   unfolding IsStrictlySortedBy
   IsStrictlySortedBy-insert_key o [] q sorted = (tt, tt)

@@ -9,6 +9,8 @@ pub enum Given {
     Bool(bool),
     Int(i64),
     Text(Text),
+    /// The number of an enum, and of a literal of it.
+    Literal(u16, u16),
 }
 
 impl Given {
@@ -20,6 +22,7 @@ impl Given {
             Given::Bool(b) => Given::Bool(*b),
             Given::Int(n) => Given::Int(*n),
             Given::Text(text) => Given::Text(text.share()),
+            Given::Literal(e, l) => Given::Literal(*e, *l),
         }
     }
 }
@@ -33,16 +36,21 @@ pub enum Change {
         class: Text,
         number: Option<u32>,
     },
+    /// The object goes, with all that it contains directly or indirectly, and with every link that
+    /// touches these.
+    Delete {
+        name: Text,
+    },
     /// An attribute gets a value.
     Set {
         name: Text,
-        attribute: Text,
+        attr: Text,
         value: Given,
     },
     /// An attribute gets its default back.
     Unset {
         name: Text,
-        attribute: Text,
+        attr: Text,
     },
     /// An object gets a target for a reference. Nothing changes where it has it.
     Link {
@@ -50,25 +58,46 @@ pub enum Change {
         reference: Text,
         target: Text,
     },
+    /// An object loses a target of a reference. Nothing changes where it doesn't have it.
+    Unlink {
+        name: Text,
+        reference: Text,
+        target: Text,
+    },
+    /// An object goes into another one by a containment.
+    Move {
+        child: Text,
+        parent: Text,
+        reference: Text,
+    },
 }
 
 /// Why a change is refused: the first of these that applies, in this order.
 #[derive(Clone, Copy, Debug, PartialEq, Eq)]
 pub enum Refusal {
-    /// A named object isn't there.
+    /// A named object never existed.
     UnknownObject,
+    /// A named object was deleted.
+    Gone,
     /// No class has the name.
     UnknownClass,
-    /// An object has the name already.
+    /// The class is abstract.
+    AbstractClass,
+    /// A live or deleted object has the name already.
     NameTaken,
     /// The name begins with `_` and isn't `_` and the object's number.
     ReservedName,
     /// The object's class has no such feature.
     UnknownFeature,
-    /// A value is given to a reference, a link to an attribute, or a value of another kind.
+    /// A value is given to a reference, a link to an attribute, or a value of another kind; or an
+    /// object is moved by what is no containment.
     WrongKind,
+    /// A text that is given to an attribute of an enum names no literal of it.
+    WrongValue,
     /// The target isn't of the class that the reference leads to.
     WrongTarget,
+    /// The link would make an object contain itself, directly or indirectly.
+    ContainmentCycle,
     /// The object's number would be 1,048,576 or more.
     TooManyObjects,
 }

@@ -1,5 +1,5 @@
 // The parts of a metamodel document, and how each is read.
-ghost use Rattle.std.specs.Prelude.{◌≡◌, [], codes};
+ghost use Rattle.std.specs.Prelude.{◌≡◌, ◌+◌, ◌<◌, [], codes, length};
 ghost use Rattle.serde_json.specs.Find.{as_str};
 ghost use Rattle.serde_json.specs.View.{view};
 ghost use Rattle.vt_json.specs.Shape.{Reads, defaulted};
@@ -52,6 +52,18 @@ pub struct MetamodelDocument {
     pub uri: Text,
     pub enums: List<EnumDocument>,
     pub classes: List<ClassDocument>,
+}
+
+impl MetamodelDocument {
+    /// The place of a class among the document's items, which are its enums and then its classes.
+    pub(crate) fn place_of_class(&self, class: usize) -> usize
+        requires { class < length self.now.classes }
+        ensures { result ≡ length self.now.enums + class }
+    {
+        let enums = self.enums.as_slice();
+        let _classes = self.classes.as_slice();
+        enums.len() + class
+    }
 }
 
 impl Shape for EnumDocument {

@@ -11,8 +11,23 @@ pub enum MetaFault {
     NotJson { place: u64 },
     /// A key that isn't listed, a key that is missing, or a value of another form.
     BadShape { place: u64 },
-    /// The document has its shape, and isn't one that this version builds a metamodel of.
-    NotBuilt { place: u64 },
+    /// An item has the name of an earlier one or of a kind, an enum two equal literals, or a class
+    /// declares two features of one name.
+    DuplicateName { place: u64 },
+    /// A supertype or a target is no class, or an attribute's kind is none.
+    UnknownType { place: u64 },
+    /// A class is its own supertype, directly or indirectly.
+    SuperCycle { place: u64 },
+    /// A reference's opposite isn't another reference that its target declares, which leads back and
+    /// names the first as its opposite.
+    BadOpposite { place: u64 },
+    /// The opposite of a containment is a containment or leads to many.
+    BadContainment { place: u64 },
+    /// A class has two different features of one name.
+    FeatureClash { place: u64 },
+    /// There are more classes, enums, literals of an enum, or attributes and references than may be.
+    /// The place is their count.
+    TooMany { place: u64 },
     NoMemory,
 }
 

@@ -1,13 +1,25 @@
 // A metamodel, and what it answers.
-ghost use Rattle.std.specs.Prelude.{◌≡◌, ◌+◌, ◌≤◌, IfOk, nat_eq, length, slice_get, position};
+ghost use Rattle.std.specs.Prelude.{◌≡◌, ◌+◌, ◌≤◌, IfOk, All, nat_eq, length, slice_get, position, IfSome};
 ghost use Rattle.std.specs.Cmp.Lexicographic.{pointwise};
 ghost use Rattle.std.specs.Option.{option_copied};
-ghost use Rattle.vt_meta.specs.Metamodel.{class_named, feature, is_attribute_of, is_reference_of};
+ghost use Rattle.vt_meta.specs.Inside.Tables.{as_metamodel, literal_place, is_marked, FindsEnumInfo, FindsClassInfo, MarksAbove};
+ghost use Rattle.vt_meta.specs.Inside.FeatureTable.{FindsFeatures};
+ghost use Rattle.vt_meta.specs.Metamodel.{isa, class_named, enum_named, feature};
 
+use crate::above::is_marked;
+use crate::features::Features;
+use crate::places::Places;
 use std::alloc::Global;
 use std::marker::Model;
-use vt_base::{AttrId, ClassId, Kind, List, NoMemory, RefId, Text};
+use vt_base::{AttrId, ClassId, Kind, List, Names, NoMemory, ObjId, RefId, Text};
 use vt_shared::Shared;
+
+/// An enum, with its literals. Their numbers are their places.
+#[derive(Debug, Drop)]
+pub struct EnumInfo {
+    pub name: Text,
+    pub literals: List<Text>,
+}
 
 /// A class. Its number is its place among the classes.
 #[derive(Debug, Drop)]
@@ -44,13 +56,27 @@ pub enum Feature {
     Ref(RefId),
 }
 
-// The lists of a metamodel, which all its owners share.
+/// The lists of a metamodel.
+#[derive(Drop)]
+pub(crate) struct Lists {
+    pub(crate) uri: Text,
+    pub(crate) enums: List<EnumInfo>,
+    pub(crate) classes: List<ClassInfo>,
+    /// The supertypes of each class.
+    pub(crate) supers: List<List<ClassId>>,
+    pub(crate) attributes: List<AttrInfo>,
+    pub(crate) references: List<RefInfo>,
+}
+
+// The lists and what is looked up in them, which all owners share.
 #[derive(Drop)]
 struct Tables {
-    uri: Text,
-    classes: List<ClassInfo>,
-    attributes: List<AttrInfo>,
-    references: List<RefInfo>,
+    lists: Lists,
+    enums: Places,
+    classes: Places,
+    // For each class, which classes are above it.
+    above: List<List<bool>>,
+    features: Features,
 }
 
 /// A metamodel with any number of owners, which nobody changes. Contracts see its lists.
@@ -60,37 +86,56 @@ pub struct Metamodel {
 }
 
 impl Model for Metamodel {
-    ghost use Rattle.std.specs.Prelude.{◌+◌, ◌≤◌, length};
+    ghost use Rattle.std.specs.Prelude.{◌+◌, ◌≤◌, All, length};
     ghost use Rattle.vt_meta.specs.Metamodel.{Metamodel};
 
     ghost Value = { Metamodel };
 
-    ghost view = { λ m. record { uri = m.tables.value.uri; classes = m.tables.value.classes; attributes = m.tables.value.attributes; references = m.tables.value.references } };
+    ghost use Rattle.vt_meta.specs.Inside.Tables.{as_metamodel, FindsEnumInfo, FindsClassInfo, MarksAbove};
+    ghost use Rattle.vt_meta.specs.Inside.FeatureTable.{FindsFeatures};
 
-    // Each number of a class, an attribute or a reference is that of a `u16`.
-    ghost invariant = { λ m. (length m.tables.value.classes ≤ 1024)
-        × (length m.tables.value.attributes + length m.tables.value.references ≤ 4096) };
+    ghost view = { λ m. as_metamodel m.tables.value.lists };
+
+    // Each number of an enum, a literal, a class, an attribute or a reference is that of a `u16`.
+    // The tables hold what the definitions say of the lists.
+    ghost invariant = { λ m. (length m.tables.value.lists.enums ≤ 1024)
+        × (All (λ e. length e.literals ≤ 1024) m.tables.value.lists.enums)
+        × (length m.tables.value.lists.classes ≤ 1024)
+        × (length m.tables.value.lists.attributes + length m.tables.value.lists.references ≤ 4096)
+        × FindsEnumInfo m.tables.value.lists.enums m.tables.value.enums
+        × FindsClassInfo m.tables.value.lists.classes m.tables.value.classes
+        × MarksAbove m.tables.value.lists.supers (length m.tables.value.lists.classes) m.tables.value.above
+        × FindsFeatures (as_metamodel m.tables.value.lists) m.tables.value.features };
 }
 
 impl Metamodel {
+    /// The metamodel with some lists. The tables hold what the definitions say of the lists.
     pub(crate) fn new(
         alloc: Global,
-        uri: Text,
-        classes: List<ClassInfo>,
-        attributes: List<AttrInfo>,
-        references: List<RefInfo>,
+        lists: Lists,
+        enums: Places,
+        classes: Places,
+        above: List<List<bool>>,
+        features: Features,
     ) -> Result<Metamodel, NoMemory>
-        requires few_classes { length classes ≤ 1024 }
-        requires few_features { length attributes + length references ≤ 4096 }
-        ensures { IfOk result (λ meta. meta ≡ record { uri = uri; classes = classes; attributes = attributes; references = references }) }
+        requires few_enums { length lists.enums ≤ 1024 }
+        requires few_literals { All (λ e. length e.literals ≤ 1024) lists.enums }
+        requires few_classes { length lists.classes ≤ 1024 }
+        requires few_features { length lists.attributes + length lists.references ≤ 4096 }
+        requires enums { FindsEnumInfo lists.enums enums }
+        requires classes { FindsClassInfo lists.classes classes }
+        requires above { MarksAbove lists.supers (length lists.classes) above }
+        requires features { FindsFeatures (as_metamodel lists) features }
+        ensures { IfOk result (λ meta. meta ≡ as_metamodel lists) }
     {
         let tables = Shared::new(
             alloc,
             Tables {
-                uri,
+                lists,
+                enums,
                 classes,
-                attributes,
-                references,
+                above,
+                features,
             },
         )?;
         Ok(Metamodel { tables })
@@ -109,46 +154,65 @@ impl Metamodel {
     pub fn uri(&self) -> &str
         ensures { result.now ≡ self.now.uri }
     {
-        self.tables.get().uri.as_str()
+        self.tables.get().lists.uri.as_str()
     }
 
     pub fn class_count(&self) -> u16
         ensures { result ≡ length self.now.classes }
     {
-        self.tables.get().classes.len() as u16
+        self.tables.get().lists.classes.len() as u16
     }
 
     pub fn attr_count(&self) -> u16
         ensures { result ≡ length self.now.attributes }
     {
-        self.tables.get().attributes.len() as u16
+        self.tables.get().lists.attributes.len() as u16
     }
 
     pub fn ref_count(&self) -> u16
         ensures { result ≡ length self.now.references }
     {
-        self.tables.get().references.len() as u16
+        self.tables.get().lists.references.len() as u16
     }
 
     /// The class with a number. `None` is of a number that no class has.
     pub fn class(&self, c: ClassId) -> Option<&ClassInfo>
         ensures { option_copied result ≡ slice_get self.now.classes c.0 }
     {
-        self.tables.get().classes.get(c.0 as usize)
+        self.tables.get().lists.classes.get(c.0 as usize)
+    }
+
+    /// The enum with a number. `None` is of a number that no enum has.
+    pub fn enum_at(&self, e: u16) -> Option<&EnumInfo>
+        ensures value { option_copied result ≡ slice_get self.now.enums e }
+        ensures few { IfSome result (λ info. length info.now.literals ≤ 1024) }
+    {
+        self.tables.get().lists.enums.get(e as usize)
     }
 
     /// The attribute with a number. `None` is of a number that no attribute has.
     pub fn attribute(&self, a: AttrId) -> Option<&AttrInfo>
         ensures { option_copied result ≡ slice_get self.now.attributes a.0 }
     {
-        self.tables.get().attributes.get(a.0 as usize)
+        self.tables.get().lists.attributes.get(a.0 as usize)
     }
 
     /// The reference with a number. `None` is of a number that no reference has.
     pub fn reference(&self, r: RefId) -> Option<&RefInfo>
         ensures { option_copied result ≡ slice_get self.now.references r.0 }
     {
-        self.tables.get().references.get(r.0 as usize)
+        self.tables.get().lists.references.get(r.0 as usize)
+    }
+
+    /// Whether a class is another one or below it.
+    pub fn isa(&self, c: ClassId, d: ClassId) -> bool
+        ensures { result ≡ isa self.now c d }
+    {
+        is_marked(
+            self.tables.get().above.as_slice(),
+            c.0 as usize,
+            d.0 as usize,
+        )
     }
 
     /// All attributes, by their numbers.
@@ -156,7 +220,7 @@ impl Metamodel {
         ensures value { result.now ≡ self.now.attributes }
         ensures few { length self.now.attributes ≤ 4096 }
     {
-        self.tables.get().attributes.as_slice()
+        self.tables.get().lists.attributes.as_slice()
     }
 
     /// All references, by their numbers.
@@ -164,48 +228,71 @@ impl Metamodel {
         ensures value { result.now ≡ self.now.references }
         ensures few { length self.now.references ≤ 4096 }
     {
-        self.tables.get().references.as_slice()
+        self.tables.get().lists.references.as_slice()
     }
 
     /// The class of this name. `None` is of a name that no class has.
     pub fn class_named(&self, name: &str) -> Option<ClassId>
         ensures { result ≡ class_named self.now name.now }
     {
-        let place = place_of_class(self.tables.get().classes.as_slice(), name)?;
+        let place = self.tables.get().classes.place_of(name)?;
         Some(ClassId(place as u16))
     }
 
-    /// The feature of this name that a class declares. `None` is of a name that none has.
+    /// The enum of this name. `None` is of a name that no enum has.
+    pub fn enum_named(&self, name: &str) -> Option<u16>
+        ensures { result ≡ enum_named self.now name.now }
+    {
+        let place = self.tables.get().enums.place_of(name)?;
+        Some(place as u16)
+    }
+
+    /// The feature of this name that a class has, its own or of a class above it. `None` is of a
+    /// name that none has.
     pub fn feature(&self, c: ClassId, name: &str) -> Option<Feature>
         ensures { result ≡ feature self.now c name.now }
     {
-        let tables = self.tables.get();
-        if let Some(a) = place_of_attribute(tables.attributes.as_slice(), c, name) {
-            return Some(Feature::Attr(AttrId(a as u16)));
-        }
-        let r = place_of_reference(tables.references.as_slice(), c, name)?;
-        Some(Feature::Ref(RefId(r as u16)))
+        self.tables.get().features.feature(c, name)
     }
 }
 
-fn place_of_class(classes: &[ClassInfo], name: &str) -> Option<usize>
-    ensures { result ≡ position (λ c. pointwise nat_eq c.name name.now) classes.now }
-{
-    classes.iter().position(|c| c.name.is(name))
+impl Names for Metamodel {
+    ghost use Rattle.std.specs.Prelude.{[]};
+    ghost use Rattle.vt_meta.specs.Metamodel.{enum_names};
+
+    ghost enums = { enum_names };
+
+    ghost objects = { λ _. [] };
+
+    #[tactic(auto, using(crate::proofs::PositionLemmas::literal_numbers_names_of))]
+    fn literal_named(&self, enum_name: &str, literal: &str) -> Option<(u16, u16)> {
+        let tables = self.tables.get();
+        let e = tables.enums.place_of(enum_name)?;
+        let l = place_of_literal(tables.lists.enums.as_slice(), e, literal)?;
+        Some((e as u16, l as u16))
+    }
+
+    fn literal_text(&self, e: u16, l: u16) -> Option<(&Text, &Text)> {
+        let info = self.tables.get().lists.enums.get(e as usize)?;
+        let literal = info.literals.get(l as usize)?;
+        Some((&info.name, literal))
+    }
+
+    fn object_text(&self, _: ObjId) -> Option<&Text> {
+        None
+    }
 }
 
-fn place_of_attribute(attributes: &[AttrInfo], c: ClassId, name: &str) -> Option<usize>
-    ensures { result ≡ position (is_attribute_of c name.now) attributes.now }
+// The place of a literal among those of the enum at a place.
+fn place_of_literal(enums: &[EnumInfo], e: usize, name: &str) -> Option<usize>
+    ensures { result ≡ literal_place enums.now e name.now }
 {
-    attributes
-        .iter()
-        .position(|a| a.class.0 == c.0 && a.name.is(name))
+    let info = enums.get(e)?;
+    place_of_text(info.literals.as_slice(), name)
 }
 
-fn place_of_reference(references: &[RefInfo], c: ClassId, name: &str) -> Option<usize>
-    ensures { result ≡ position (is_reference_of c name.now) references.now }
+fn place_of_text(texts: &[Text], name: &str) -> Option<usize>
+    ensures { result ≡ position (pointwise nat_eq name.now) texts.now }
 {
-    references
-        .iter()
-        .position(|r| r.class.0 == c.0 && r.name.is(name))
+    texts.iter().position(|text| name == text.as_str())
 }

@@ -10,6 +10,13 @@ pub struct Object {
     pub class: ClassId,
 }
 
+/// An object that was deleted. Its number and its name stay taken.
+#[derive(Debug, Drop)]
+pub struct GoneObject {
+    pub number: ObjId,
+    pub name: Text,
+}
+
 /// The value that an object has for an attribute.
 #[derive(Debug, Drop)]
 pub struct AttributeValue {

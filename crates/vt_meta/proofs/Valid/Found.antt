@@ -1,36 +1,34 @@
--- What names find: live objects, attributes and references of a class.
-use Rattle.std.proofs.Common.{◌≡◌, ℕ, List, [], ◌∷◌, ◌++◌, length, map, get_or, refl, sym, ap, subst, ◌∙◌, cond, Bool, true, false}
-use Rattle.std.specs.Prelude.{◌<◌, ◌||◌, not, nat_eq, find, position, Contains, slice_get, Option, Some, None, is_some, option_map}
-use Rattle.std.specs.Cmp.Lexicographic.{pointwise, nat_list_eq_equiv}
-use Rattle.std.specs.List.{list_any}
-use Rattle.std.proofs.lemmas.Bool.{and_parts, and_from, or_parts, or_from, not_from_false, eqb-true}
+-- What names find: live objects, classes, and the attributes of a class.
+use Rattle.std.proofs.Common.{◌≡◌, ℕ, List, [], ◌∷◌, length, get_or, refl, sym, subst, cond, Bool, true, false}
+use Rattle.std.specs.Prelude.{◌<◌, nat_lt, find, position, Contains, IsSomeAnd, slice_get, Option, Some, None, option_map, option_and_then}
+use Rattle.std.specs.Option.{option_map_or}
+use Rattle.std.proofs.lemmas.Bool.{and_parts, lt-ltb}
 use Rattle.std.proofs.lemmas.List.Elements.{Contains-append_left, Contains-append_right, Contains-push}
 use Rattle.std.proofs.lemmas.List.Quantifiers.{position-Some}
-use Rattle.std.proofs.lemmas.List.Folds.{list_any-append}
-use Rattle.std.proofs.lemmas.Option.{slice_get-get_or}
-use Rattle.vt_base.specs.declared.numbers.ObjId.{ObjId}
+use Rattle.std.proofs.lemmas.Option.{slice_get-get_or, same_Some}
 use Rattle.vt_base.specs.declared.numbers.ClassId.{ClassId}
-use Rattle.vt_base.specs.declared.numbers.RefId.{RefId}
-use Rattle.vt_meta.specs.Metamodel.{Metamodel, class_named, feature, or_reference, is_attribute_of, is_reference_of}
+use Rattle.vt_base.specs.declared.numbers.AttrId.{AttrId}
+use Rattle.vt_base.specs.declared.value.Kind.{Kind}
+use Rattle.vt_meta.specs.Metamodel.{Metamodel, isa, class_named, feature, or_reference, is_attribute_of, is_reference_of}
+use Rattle.vt_meta.specs.Declarations.{is_name}
 use Rattle.vt_meta.specs.Model.{Model, object_named}
-use Rattle.vt_meta.specs.Plain.{is_distinct}
+use Rattle.vt_meta.specs.Creating.{is_abstract}
+use Rattle.vt_meta.specs.Assigning.{attribute_of, kind_asked, is_literal, literal_named}
 use Rattle.vt_meta.specs.Fits.{IsLive}
+use Rattle.vt_meta.specs.declared.metamodel.EnumInfo.{EnumInfo}
 use Rattle.vt_meta.specs.declared.metamodel.ClassInfo.{ClassInfo}
-use Rattle.vt_meta.specs.declared.metamodel.RefInfo.{RefInfo}
-use Rattle.vt_meta.specs.declared.metamodel.Feature.TheVariants.{Ref}
+use Rattle.vt_meta.specs.declared.metamodel.AttrInfo.{AttrInfo}
+use Rattle.vt_meta.specs.declared.metamodel.Feature.{Feature}
 use Rattle.vt_meta.specs.declared.model.Object.{Object}
 
 -- ---- in lists
-
-here : {X : Type 0} (x : X) (xs : List X) → Contains (x ∷ xs) x
-here x xs = Contains-append_left (x ∷ []) xs x (Contains-push [] x)
 
 -- what a search gives stands in the list
 pub Contains-find : {X : Type 0} (p : X → Bool) (xs : List X) (x : X) → find p xs ≡ Some x → Contains xs x
 Contains-find p [] x e = cc
 Contains-find p (y ∷ ys) x e =
     elim (p y) as (λ b. cond b (Some y) (find p ys) ≡ Some x → Contains (y ∷ ys) x) [
-      | true ↦ λ same. let is : y ≡ x = cc in subst (λ z. Contains (y ∷ ys) z) is (here y ys)
+      | true ↦ λ same. let is : y ≡ x = cc in subst (λ z. Contains (y ∷ ys) z) is (Contains-append_left (y ∷ []) ys y (Contains-push [] y))
       | false ↦ λ later. Contains-append_right (y ∷ []) ys x (Contains-find p ys x later)
     ] e
 
@@ -41,6 +39,7 @@ pub record IsAt {X : Type 0} (p : X → Bool) (xs : List X) (i : ℕ) : Type 0 w
   pub passes : p item ≡ true
   pub in_range : i < length xs
 
+-- the first place of one that passes
 pub IsAt-position : {X : Type 0} (p : X → Bool) (xs : List X) (i : ℕ) → position p xs ≡ Some i → IsAt p xs i
 IsAt-position p [] i e = cc
 IsAt-position p (x ∷ xs) i e =
@@ -49,70 +48,60 @@ IsAt-position p (x ∷ xs) i e =
 
 -- ---- objects
 
+-- an object that a name finds is live
 pub IsLive-object_named : (g : Model) (name : List ℕ) (o : Object) → object_named g name ≡ Some o → IsLive g.live o.number o.class
-IsLive-object_named g name o e = record { name = o.name; there = Contains-find (λ o. pointwise nat_eq o.name name) g.live o e }
+IsLive-object_named g name o e = record { name = o.name; there = Contains-find (λ o. is_name o.name name) g.live o e }
 
-pub IsLive-append : (live more : List Object) (o : ObjId) (c : ClassId) → IsLive live o c → IsLive (live ++ more) o c
-IsLive-append live more o c l = record { name = l.name; there = Contains-append_left live more (record { number = o; name = l.name; class = c }) l.there }
+-- ---- classes
 
--- a name that finds no object is no object's name
-pub list_any-names : (name : List ℕ) (objects : List Object)
-    → list_any (λ n. pointwise nat_eq n name) (map (λ o. o.name) objects) ≡ is_some (find (λ o. pointwise nat_eq o.name name) objects)
-list_any-names name [] = refl
-list_any-names name (o ∷ objects) =
-    elim (pointwise nat_eq o.name name) as (λ b. (b || list_any (λ n. pointwise nat_eq n name) (map (λ o. o.name) objects)) ≡ is_some (cond b (Some o) (find (λ o. pointwise nat_eq o.name name) objects))) [
-      | true ↦ refl
-      | false ↦ list_any-names name objects
-    ]
-
--- one more name that is none of them
-pub is_distinct-push : (names : List (List ℕ)) (name : List ℕ) → is_distinct names ≡ true
-    → list_any (λ n. pointwise nat_eq n name) names ≡ false → is_distinct (names ++ name ∷ []) ≡ true
-is_distinct-push [] name differ fresh = refl
-is_distinct-push (n ∷ names) name differ fresh =
-    let both = and_parts (not (list_any (λ m. pointwise nat_eq m n) names)) (is_distinct names) differ in
-    let parts = or_parts (pointwise nat_eq n name) (list_any (λ m. pointwise nat_eq m name) names) fresh in
-    let other : pointwise nat_eq name n ≡ false = nat_list_eq_equiv.symm name n ∙ parts.0 in
-    let first : list_any (λ m. pointwise nat_eq m n) names ≡ false = unnegated (list_any (λ m. pointwise nat_eq m n) names) both.0 in
-    and_from (not (list_any (λ m. pointwise nat_eq m n) (names ++ name ∷ []))) (is_distinct (names ++ name ∷ []))
-    (not_from_false (list_any (λ m. pointwise nat_eq m n) (names ++ name ∷ [])) (list_any-append (λ m. pointwise nat_eq m n) names (name ∷ []) ∙ or_from (list_any (λ m. pointwise nat_eq m n) names) (pointwise nat_eq name n || false) first (or_from (pointwise nat_eq name n) false other refl)))
-    (is_distinct-push names name both.1 parts.1)
+-- a class that a name finds is there, and a test that it isn't abstract says so
+pub IsSomeAnd-class_named : (meta : Metamodel) (name : List ℕ) (c : ClassId) → class_named meta name ≡ Some c → is_abstract meta (Some c) ≡ false
+    → IsSomeAnd (slice_get meta.classes c.0) (λ info. info.is_abstract ≡ false)
+IsSomeAnd-class_named meta name c e concrete = by (position (λ i. is_name i.name name) meta.classes) refl e
   where
-    unnegated : (b : Bool) → not b ≡ true → b ≡ false
-    unnegated true e = sym e
-    unnegated false e = refl
+    by : (r : Option ℕ) → position (λ i. is_name i.name name) meta.classes ≡ r → option_map (λ n. record { 0 = n }) r ≡ Some c
+        → IsSomeAnd (slice_get meta.classes c.0) (λ info. info.is_abstract ≡ false)
+    by None found e = cc
+    by (Some n) found e =
+        let at = IsAt-position (λ i. is_name i.name name) meta.classes n found in
+        let is : n ≡ c.0 = cc in
+        let there : slice_get meta.classes c.0 ≡ Some at.item = subst (λ i. slice_get meta.classes i ≡ Some at.item) is at.there in
+        let whole : at.item.is_abstract ≡ false = subst (λ s. option_map_or (λ (info : ClassInfo). info.is_abstract) s false ≡ false) there concrete in
+        subst (λ s. IsSomeAnd s (λ info. info.is_abstract ≡ false)) (sym there) whole
 
--- ---- classes and features
+-- ---- attributes
 
-abbrev is_named : List ℕ → ClassInfo → Bool
-is_named name i = pointwise nat_eq i.name name
+-- a class has an attribute
+pub record HasAttribute (meta : Metamodel) (c : ClassId) (a : AttrId) : Type 0 where
+  pub info : AttrInfo
+  pub declared : slice_get meta.attributes a.0 ≡ Some info
+  pub below : isa meta c info.class ≡ true
 
-class_place : (meta : Metamodel) (name : List ℕ) (c : ClassId) (r : Option ℕ) → position (is_named name) meta.classes ≡ r
-    → option_map (λ n. record { 0 = n }) r ≡ Some c → c.0 < length meta.classes
-class_place meta name c None p e = cc
-class_place meta name c (Some n) p e =
-    let is : n ≡ c.0 = cc in
-    subst (λ i. i < length meta.classes) is (IsAt.in_range (IsAt-position (is_named name) meta.classes n p))
-
-pub class_named-in_range : (meta : Metamodel) (name : List ℕ) (c : ClassId) → class_named meta name ≡ Some c → c.0 < length meta.classes
-class_named-in_range meta name c e = class_place meta name c (position (is_named name) meta.classes) refl e
-
--- a reference that a class declares
-pub record DeclaresReference (meta : Metamodel) (c : ClassId) (r : RefId) : Type 0 where
-  pub info : RefInfo
-  pub there : slice_get meta.references r.0 ≡ Some info
-  pub class : info.class ≡ c
-
-reference_place : (a r : Option ℕ) (found : RefId) → or_reference a r ≡ Some (Ref found) → r ≡ Some found.0
-reference_place (Some a) r found e = cc
-reference_place None None found e = cc
-reference_place None (Some r) found e = cc
-
-pub DeclaresReference-feature : (meta : Metamodel) (c : ClassId) (name : List ℕ) (r : RefId) → feature meta c name ≡ Some (Ref r) → DeclaresReference meta c r
-DeclaresReference-feature meta c name r e =
-    let at = IsAt-position (is_reference_of c name) meta.references r.0 (reference_place (position (is_attribute_of c name) meta.attributes) (position (is_reference_of c name) meta.references) r e) in
-    let both = and_parts (nat_eq at.item.class.0 c.0) (pointwise nat_eq at.item.name name) at.passes in
-    record { info = at.item; there = at.there; class = same (eqb-true at.item.class.0 c.0 both.0) }
+-- an attribute that a name finds in a class
+pub HasAttribute-feature : (meta : Metamodel) (c : ClassId) (name : List ℕ) (a : AttrId) → attribute_of (feature meta c name) ≡ Some a → HasAttribute meta c a
+HasAttribute-feature meta c name a e =
+    let at = IsAt-position (is_attribute_of meta c name) meta.attributes a.0 (place (position (is_attribute_of meta c name) meta.attributes) (position (is_reference_of meta c name) meta.references) e) in
+    record { info = at.item; declared = at.there; below = (and_parts (isa meta c at.item.class) (is_name at.item.name name) at.passes).0 }
   where
-    same : {a b : ClassId} → a.0 ≡ b.0 → a ≡ b
-    same e = ap (λ n. record { 0 = n }) e
+    place : (p r : Option ℕ) → attribute_of (or_reference p r) ≡ Some a → p ≡ Some a.0
+    place (Some i) r e = cc
+    place None None e = cc
+    place None (Some i) e = cc
+
+-- the kind that is asked for is that of the attribute
+pub kind_asked-declared : (meta : Metamodel) (f : Option Feature) (a : AttrId) (info : AttrInfo) (k : Kind)
+    → attribute_of f ≡ Some a → slice_get meta.attributes a.0 ≡ Some info → kind_asked meta f ≡ Some k → info.kind ≡ k
+kind_asked-declared meta f a info k found declared asked =
+    let of_a = subst (λ s. option_map (λ (i : AttrInfo). i.kind) (option_and_then (λ (b : AttrId). slice_get meta.attributes b.0) s) ≡ Some k) found asked in
+    same_Some info.kind k (subst (λ s. option_map (λ (i : AttrInfo). i.kind) s ≡ Some k) declared of_a)
+
+-- ---- literals
+
+-- a literal that a text names is one of the enum
+pub is_literal-literal_named : (meta : Metamodel) (e : ℕ) (name : List ℕ) (l : ℕ) → literal_named meta e name ≡ Some l → is_literal meta e l ≡ true
+is_literal-literal_named meta e name l found = by (slice_get meta.enums e) found
+  where
+    by : (r : Option EnumInfo) → option_and_then (λ enum. position (λ literal. is_name literal name) enum.literals) r ≡ Some l
+        → option_map_or (λ enum. nat_lt l (length enum.literals)) r false ≡ true
+    by None found = cc
+    by (Some enum) found = lt-ltb l (length enum.literals) (IsAt.in_range (IsAt-position (λ literal. is_name literal name) enum.literals l found))

@@ -1,0 +1,70 @@
+-- The supertypes of a document's classes, by places and by numbers.
+use Rattle.std.proofs.Common.{◌≡◌, ℕ, ◌+◌, List, [], ◌∷◌, ◌++◌, length, map, drop, get_or, refl, sym, ap, subst, ◌∙◌, Bool, arith}
+use Rattle.std.specs.Prelude.{◌<◌, ◌||◌, All, position, Option, Some, None, unwrap_or}
+use Rattle.std.specs.List.{list_any}
+use Rattle.std.proofs.lemmas.List.{append_assoc, at_drop_more, length-map}
+use Rattle.std.proofs.lemmas.List.Elements.{All-map}
+use Rattle.vt_base.specs.declared.numbers.ClassId.{ClassId}
+use Rattle.vt_meta.specs.Metamodel.{supers_of, is_within}
+use Rattle.vt_meta.specs.Declarations.{is_name, class_place, class_number, supers_in}
+use Rattle.vt_meta.specs.Faults.{is_above_itself}
+use Rattle.vt_meta.specs.Inside.Above.{class_id, ids, supers_at, supers_places, is_above_any, AreThere}
+use Rattle.vt_meta.specs.declared.document.ClassDocument.{ClassDocument}
+use Rattle.vt_meta.specs.declared.document.MetamodelDocument.{MetamodelDocument}
+use Rattle.vt_meta.proofs.PositionLemmas.{IsAt, IsAt-position}
+use Rattle.vt_meta.proofs.AboveLemmas.{supers_of-ids}
+
+-- what is out, and what the rest gives, at a step of a loop
+pub out_more : {A B : Type 0} (f : A → B) (xs : List A) (i : ℕ) (x : A) (out new whole : List B) → i < length xs → x ≡ get_or xs i x → out ++ map f (drop i xs) ≡ whole
+    → new ≡ out ++ f x ∷ [] → new ++ map f (drop (i + 1) xs) ≡ whole
+out_more f xs i x out new whole below at before is =
+    ap (λ l. l ++ map f (drop (i + 1) xs)) is
+    ∙ append_assoc out (f x ∷ []) (map f (drop (i + 1) xs))
+    ∙ ap (λ y. out ++ (f y ∷ map f (drop (i + 1) xs))) at
+    ∙ ap (λ l. out ++ l) (sym (at_drop_more (map f) xs i x below))
+    ∙ before
+
+pub map-map : {A B C : Type 0} (g : B → C) (f : A → B) (xs : List A) → map g (map f xs) ≡ map (λ x. g (f x)) xs
+map-map g f [] = refl
+map-map g f (x ∷ xs) = ap (λ ys. g (f x) ∷ ys) (map-map g f xs)
+
+pub list_any-map : {A B : Type 0} (p : B → Bool) (f : A → B) (xs : List A) → list_any p (map f xs) ≡ list_any (λ x. p (f x)) xs
+list_any-map p f [] = refl
+list_any-map p f (x ∷ xs) = ap (λ b. p (f x) || b) (list_any-map p f xs)
+
+module _ (document : MetamodelDocument) where
+  abbrev place : List ℕ → ℕ
+  place s = unwrap_or (class_place document s) 0
+
+  abbrev places : ClassDocument → List ℕ
+  places c = map place c.supers
+
+  pub length-supers_places : length (supers_places document) ≡ length document.classes
+  length-supers_places = length-map document.classes places
+
+  place_below : 0 < length document.classes → (s : List ℕ) → place s < length document.classes
+  place_below some s = by (class_place document s) refl
+    where
+      by : (r : Option ℕ) → class_place document s ≡ r → unwrap_or r 0 < length document.classes
+      by None e = some
+      by (Some n) e = IsAt.in_range (IsAt-position (λ (c : ClassDocument). is_name c.name s) document.classes n e)
+
+  pub there_supers : AreThere (supers_places document)
+  there_supers = subst (λ n. All (All (λ e. e < n)) (supers_places document)) (sym length-supers_places)
+      (All-map (All (λ e. e < length document.classes)) places document.classes
+      (λ k d below. All-map (λ e. e < length document.classes) place (get_or document.classes k d).supers (λ j s _. place_below (omega arith) (get_or (get_or document.classes k d).supers j s))))
+
+  pub ids_supers_places : ids (supers_places document) ≡ supers_in document
+  ids_supers_places =
+      map-map (map class_id) places document.classes
+      ∙ (λ i. map (λ (c : ClassDocument). map-map class_id place c.supers i) document.classes)
+
+  pub above_itself : (supers : List (List ℕ)) (c : ℕ) → supers ≡ supers_places document → is_above_any supers (supers_at supers c) c ≡ is_above_itself document (class_id c)
+  above_itself supers c is =
+      ap (λ s. is_above_any s (supers_at s c) c) is
+      ∙ sym (list_any-map (λ s. is_within (ids (supers_places document)) (length (supers_places document)) s (class_id c)) class_id (supers_at (supers_places document) c))
+      ∙ ap (list_any (λ s. is_within (ids (supers_places document)) (length (supers_places document)) s (class_id c))) (sym (supers_of-ids (supers_places document) c))
+      ∙ (λ i. list_any (λ s. is_within (ids_supers_places i) (length-supers_places i) s (class_id c)) (supers_of (ids_supers_places i) (class_id c)))
+
+  pub length_supers : (supers : List (List ℕ)) → supers ≡ supers_places document → length supers ≡ length document.classes
+  length_supers supers is = ap length is ∙ length-supers_places

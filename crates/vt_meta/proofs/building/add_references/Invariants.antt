@@ -1,0 +1,8 @@
+use Rattle.std.proofs.Common.{◌≡◌, ◌++◌, drop, map}
+use Rattle.vt_meta.specs.Built.{declared_by, ref_info}
+use Rattle.vt_meta.proofs.building.add_references.Given as goal
+
+-- what is out, and what the rest gives, is what the whole gives
+abbrev pub invariant-loop-reference : goal.invariant-loop-reference
+invariant-loop-reference l =
+    l.infos ++ map (ref_info l.resolved.document) (declared_by l.class.0 (drop l.reference-index l.references)) ≡ l.fn.infos ++ map (ref_info l.resolved.document) (declared_by l.class.0 l.references)

@@ -1,0 +1,7 @@
+use Rattle.std.proofs.Common.{◌≡◌, take, true}
+use Rattle.vt_meta.specs.Declarations.{is_distinct}
+use Rattle.vt_meta.specs.Inside.Places.{FindsIn}
+use Rattle.vt_meta.proofs.duplicates.is_distinct.Given as goal
+
+abbrev pub invariant-loop-place : goal.invariant-loop-place
+invariant-loop-place l = FindsIn (take l.place l.names) l.seen × (is_distinct (take l.place l.names) ≡ true)

@@ -1,0 +1,8 @@
+-- What the functions inside the crate promise each other. No public clause cites a module below.
+pub mod Places
+pub mod Above
+pub mod Features
+pub mod Tables
+pub mod FeatureTable
+pub mod Refused
+pub mod Building
