@@ -1,0 +1,9 @@
+pub mod EffectLemmas
+pub mod InsideLemmas
+pub mod BuildingLemmas
+pub mod StopLemmas
+pub mod LoadingLemmas
+pub mod RisingLemmas
+pub mod NamesLemmas
+pub mod JoinedLemmas
+pub mod NoFloats

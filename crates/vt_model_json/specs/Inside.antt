@@ -1,0 +1,3 @@
+-- No public clause cites a module below.
+pub mod Joined
+pub mod Steps
