@@ -1,0 +1,5 @@
+pub mod HoldingLemmas
+pub mod TablesLemmas
+pub mod NarrowLemmas
+pub mod NamedLemmas
+mod SampleLemmas

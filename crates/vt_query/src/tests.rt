@@ -1,0 +1,3 @@
+//! That programs can be copied, and what the definitions say of small programs.
+mod copies;
+mod definitions;
