@@ -1,0 +1,15 @@
+-- How an answer on patterns stands to what they make.
+use Rattle.std.specs.Prelude.{◌≡◌, List, ◌++◌, Option, Some, None, Result, Ok, Err}
+use Rattle.vt_vql.specs.declared.fault.Stuck.{Stuck}
+use Rattle.vt_vql.specs.declared.fault.Stuck.TheVariants.{NotNarrow, NoMemory}
+
+-- what is made, or that the patterns aren't narrow; memory may run out
+abbrev pub Makes : {A : Type 0} → Result A Stuck → Option A → Type 0
+Makes (Ok x) made = made ≡ Some x
+Makes (Err NotNarrow) made = made ≡ None
+Makes (Err NoMemory) made = Unit {0}
+
+-- what is made, behind what was there before
+abbrev pub with_front : {A : Type 0} → List A → Option (List A) → Option (List A)
+with_front before None = None
+with_front before (Some xs) = Some (before ++ xs)

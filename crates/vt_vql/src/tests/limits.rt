@@ -1,0 +1,62 @@
+//! The greatest numbers of parameters, constraints, variables and patterns.
+use super::{NOT_BUILT, READ, fault_of};
+use std::alloc::Global;
+use std::test::Fail;
+
+// A pattern with so many typed parameters, and so often the constraint.
+fn pattern_with(alloc: Global, params: u32, constraint: &str, times: u32) -> Result<String, Fail> {
+    let mut text = String::from_str(alloc, "pattern p(a : Node")?;
+    for i in 1..params {
+        text.push_str(format!(in alloc; ", a{i} : Node")?.as_str())?;
+    }
+    text.push_str(") { ")?;
+    for _ in 0..times {
+        text.push_str(constraint)?;
+    }
+    text.push_str("}")?;
+    Ok(text)
+}
+
+// So many patterns of different names.
+fn patterns(alloc: Global, count: u32) -> Result<String, Fail> {
+    let mut text = String::new(alloc);
+    for i in 0..count {
+        text.push_str(format!(in alloc; "pattern p{i}() {{ }}\n")?.as_str())?;
+    }
+    Ok(text)
+}
+
+#[test]
+fn the_limits_hold_and_one_more_is_refused(rt: HostRuntime) -> Result<(), Fail> {
+    for (params, constraint, times, fault) in [
+        (16, "", 0, READ),
+        (17, "", 0, NOT_BUILT),
+        // the declared types are among the constraints
+        (1, "Node(a);", 127, READ),
+        (1, "Node(a);", 128, NOT_BUILT),
+        (16, "Node(a);", 112, READ),
+        (16, "Node(a);", 113, NOT_BUILT),
+        // each `_` is a variable
+        (1, "Node(_);", 63, READ),
+        (1, "Node(_);", 64, NOT_BUILT),
+        (2, "Node.to(_, _);", 31, READ),
+        (2, "Node.to(_, _);", 32, NOT_BUILT),
+    ] {
+        let text = pattern_with(rt.alloc(), params, constraint, times)?;
+        assert_eq!(rt;
+            fault_of(rt.alloc(), text.as_bytes())?,
+            fault,
+            "{params} {times}"
+        );
+    }
+    Ok(())
+}
+
+#[test]
+fn a_file_has_at_most_512_patterns(rt: HostRuntime) -> Result<(), Fail> {
+    let most = patterns(rt.alloc(), 512)?;
+    assert_eq!(rt; fault_of(rt.alloc(), most.as_bytes())?, READ);
+    let more = patterns(rt.alloc(), 513)?;
+    assert_eq!(rt; fault_of(rt.alloc(), more.as_bytes())?, NOT_BUILT);
+    Ok(())
+}
