@@ -1,4 +1,4 @@
 -- No public clause cites a module below.
-pub mod Joined
-pub mod Steps
+pub mod Seen
 pub mod Prepared
+pub mod Printable

@@ -9,6 +9,7 @@ use vt_base::List;
 pub enum Role {
     Metamodel,
     Model,
+    Queries,
 }
 
 /// How a run ends.

@@ -1,34 +1,36 @@
 //! The commands: words and files in, text and an ending out.
 //!
-//! It stands on all crates below. Read `specs/ModelDocument.antt`, `specs/Loading.antt` and
-//! `specs/Dump.antt`, then `specs/Command.antt`, `specs/Lines.antt`, `specs/Result.antt` and
-//! `specs/Answer.antt`; then `viatra`, below.
+//! It stands on all crates below. Read `specs/Command.antt`, `specs/Lines.antt`,
+//! `specs/Refusals.antt`, `specs/Lists.antt`, `specs/Result.antt` and `specs/Answer.antt`; then
+//! `viatra`, below.
 #![tactic(auto)]
 
 ghost use Rattle.std.specs.Prelude.{◌≡◌, None, IfSome};
 ghost use Rattle.std.specs.Io.KnownBytes.{Appends};
 ghost use Rattle.vt_outside.specs.Faults.{Rose};
-ghost use Rattle.vt_cli.specs.Command.{command_of, name_of, names_before};
+ghost use Rattle.vt_cli.specs.Command.{command_of, name_of, names_before, AsksNothing};
 ghost use Rattle.vt_cli.specs.Lines.{unreadable_line};
-ghost use Rattle.vt_cli.specs.Result.{due};
 ghost use Rattle.vt_cli.specs.declared.ending.Role.{Role};
-ghost use Rattle.vt_cli.specs.Answer.{IsDecided, IsCutShort, EndsUsage, IsCompleted, WritesFront, AreThere};
+ghost use Rattle.vt_cli.specs.Answer.{IsDecided, IsAnswered, IsCutShort, EndsUsage, IsCompleted, WritesFront, AreThere};
 
-// Model documents, the models that they make, and their dumps.
-mod document;
-mod dump;
-mod loading;
-mod model;
 // What the words come to, and how a run ends.
+mod command;
+mod documents;
 mod ending;
+mod fetching;
 mod lines;
+mod matches;
 mod outcome;
-mod show;
+mod refusals;
 #[cfg(test)]
 mod tests;
+// What holds of every run.
+mod laws;
 
 // How a run ends.
 pub use ending::{Ending, Role};
+// What holds of every run.
+pub use laws::one_outcome_is_due;
 use outcome::{deliver, prepare};
 use std::alloc::Global;
 use std::sync::ledger::Ledger;
@@ -44,12 +46,10 @@ pub fn viatra<S: Shelf, K: Sink, L: Ledger>(
     out: &mut K,
     steps: &mut Steps<L>,
 ) -> Ending
-    // Where the shelf tells its files, they and the words decide: done, no command, a document
-    // refused, a file missing or too large, and the whole text that is due was written.
+    // Where the shelf tells its files, they and the words decide: done, no command, a file
+    // refused, missing or too large, and the whole text that is due was written.
     ensures decided { IsDecided result → IfSome (S.files shelf.old) (λ files.
-        result ≡ (due words.now files).ending) }
-    ensures text { IsDecided result → IfSome (S.files shelf.old) (λ files.
-        Appends (K.written out.old) (K.written out.new) (due words.now files).text) }
+        IsAnswered words.now files result (K.written out.old) (K.written out.new)) }
     ensures quiet { IsDecided result → S.faults shelf.new ≡ S.faults shelf.old }
 
     // No command is told as such, told files or not.
@@ -70,16 +70,17 @@ pub fn viatra<S: Shelf, K: Sink, L: Ledger>(
     // The writing was cut short: the sink counted a failure, or memory ran out.
     ensures write_fault { result ≡ Ending.WriteFault → Rose (K.faults out.old) (K.faults out.new) }
     ensures front { IsCutShort result → IfSome (S.files shelf.old) (λ files.
-        WritesFront (due words.now files).text (S.faults shelf.old) (S.faults shelf.new)
+        WritesFront words.now files (S.faults shelf.old) (S.faults shelf.new)
         (K.written out.old) (K.written out.new)) }
 
     // Where no device failed, the words and the files decide, unless memory ran out.
     ensures completes { ¬ Rose (S.faults shelf.old) (S.faults shelf.new)
         → ¬ Rose (K.faults out.old) (K.faults out.new) → IsCompleted result }
 
-    ensures ticks { steps.new ≡ steps.old }
+    // Only `matches` asks the model for rows, which are counted.
+    ensures ticks { AsksNothing (command_of words.now) → steps.new ≡ steps.old }
 {
-    match prepare(alloc, words, shelf) {
+    match prepare(alloc, words, shelf, steps) {
         Ok(outcome) => deliver(out, &outcome),
         Err(NoMemory) => Ending::NoMemory,
     }

@@ -12,6 +12,7 @@ fn role_name(role: Role) -> &'static str
     match role {
         Role::Metamodel => "metamodel",
         Role::Model => "model",
+        Role::Queries => "queries",
     }
 }
 

@@ -1,5 +1,5 @@
-// The command over files and output in memory: its endings, its dumps and the lines that tell a
-// fault, each worked out by hand.
+// The commands over files and output in memory: their endings, dumps, match lists and the lines that
+// tell a fault, each worked out by hand.
 ghost use Rattle.std.specs.Prelude.{◌≡◌};
 
 use crate::{Ending, viatra};
@@ -12,6 +12,7 @@ use vt_outside::{MemShelf, MemSink};
 
 mod documents;
 mod faults;
+mod matches;
 mod show;
 
 // One class: its objects have a number `w`, and lead to others by `to`.
@@ -26,6 +27,31 @@ const TWO_NODES_DUMP: &str = concat!(
     r#"{"format":1,"next":2,"objects":[{"attributes":{"w":7},"class":"Node","links":{"to":["p","q"]},"name":"p","number":0},"#,
     r#"{"attributes":{"w":0},"class":"Node","links":{},"name":"q","number":1}]}"#,
     "\n",
+);
+
+// Shelves with books in them and shelves within, and books that come in pairs.
+const LIBRARY: &str = concat!(
+    r#"{"format":1,"classes":[{"name":"Shelf","references":[{"name":"books","target":"Book","many":true,"containment":true,"opposite":"shelf"},"#,
+    r#"{"name":"sub","target":"Shelf","many":true,"containment":true}]},"#,
+    r#"{"name":"Book","attributes":[{"name":"pages","kind":"int"},{"name":"title","kind":"string"}],"references":[{"name":"shelf","target":"Shelf","opposite":"books"},"#,
+    r#"{"name":"twin","target":"Book","opposite":"pair"},{"name":"pair","target":"Book","opposite":"twin"}]}]}"#,
+);
+
+// Things of two classes, with a value of each kind.
+const ZOO: &str = concat!(
+    r#"{"format":1,"enums":[{"name":"Mood","literals":["CALM","ANGRY"]}],"classes":["#,
+    r#"{"name":"Thing","abstract":true,"attributes":[{"name":"n","kind":"int"}],"references":[{"name":"next","target":"Thing","many":true}]},"#,
+    r#"{"name":"Cat","supers":["Thing"],"attributes":[{"name":"name","kind":"string"},{"name":"mood","kind":"Mood"},{"name":"wild","kind":"boolean"}]},"#,
+    r#"{"name":"Dog","supers":["Thing"]}]}"#,
+);
+
+// Four cats and a dog. The links are `a` to `a` and `b`, `b` to `c`, and `c` to `a`.
+const FIVE_THINGS: &str = concat!(
+    r#"{"format":1,"objects":[{"name":"a","class":"Cat","attributes":{"n":3,"name":"b\"\n","mood":"ANGRY","wild":true},"links":{"next":["b","a"]}},"#,
+    r#"{"name":"b","class":"Cat","attributes":{"n":-1,"name":"B"},"links":{"next":["c"]}},"#,
+    r#"{"name":"c","class":"Dog","attributes":{"n":3},"links":{"next":["a"]}},"#,
+    r#"{"name":"d","class":"Cat","attributes":{"n":-20,"name":null,"mood":null}},"#,
+    r#"{"name":"e","class":"Cat","attributes":{"name":"é"}}]}"#,
 );
 
 fn word_list(alloc: Global, words: &[&str]) -> Result<List<Text>, NoMemory> {
@@ -53,11 +79,12 @@ fn add_file(
     files.add((Text::new(alloc, name)?, copy))
 }
 
-// A shelf with a file `meta` and a file `model`, as far as they are there.
+// A shelf with the files `meta`, `model` and `queries`, as far as they are there.
 fn shelf_of(
     alloc: Global,
     meta: Option<&[u8]>,
     model: Option<&[u8]>,
+    queries: Option<&[u8]>,
     failing: &[u64],
 ) -> Result<MemShelf, NoMemory> {
     let mut files = List::new(alloc);
@@ -66,6 +93,9 @@ fn shelf_of(
     }
     if let Some(bytes) = model {
         add_file(&mut files, alloc, "model", bytes)?;
+    }
+    if let Some(bytes) = queries {
+        add_file(&mut files, alloc, "queries", bytes)?;
     }
     Ok(MemShelf::new(files, number_list(alloc, failing)?))
 }
@@ -102,6 +132,23 @@ fn answer(
 
 // How `show` ends over a metamodel and a model, and what it writes.
 fn shown(alloc: Global, meta: &str, model: &[u8]) -> Result<(Ending, String), Fail> {
-    let shelf = shelf_of(alloc, Some(meta.as_bytes()), Some(model), &[])?;
+    let shelf = shelf_of(alloc, Some(meta.as_bytes()), Some(model), None, &[])?;
     answer(alloc, &["show", "meta", "model"], shelf, &[])
+}
+
+// How `matches` ends over a metamodel, a model and a query file, and what it writes.
+fn matched(
+    alloc: Global,
+    meta: &str,
+    model: &str,
+    queries: &[u8],
+) -> Result<(Ending, String), Fail> {
+    let shelf = shelf_of(
+        alloc,
+        Some(meta.as_bytes()),
+        Some(model.as_bytes()),
+        Some(queries),
+        &[],
+    )?;
+    answer(alloc, &["matches", "meta", "model", "queries"], shelf, &[])
 }

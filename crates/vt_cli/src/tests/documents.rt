@@ -1,5 +1,5 @@
 // Odd documents that are right, each with its dump.
-use super::{NODES, TWO_NODES, TWO_NODES_DUMP, shown};
+use super::{FIVE_THINGS, LIBRARY, NODES, TWO_NODES, TWO_NODES_DUMP, ZOO, shown};
 use crate::Ending;
 use std::alloc::Global;
 use std::process::Abort;
@@ -18,6 +18,10 @@ const RAIL: &str = concat!(
 // A name of 64 bytes.
 const LONG: &str =
     r#"{"format":1,"classes":[{"name":"_","attributes":[{"name":"abcdefghijklmnopqrstuvwxyzABCDEFGHIJKLMNOPQRSTUVWXYZ0123456789__","kind":"int"}],"references":[{"name":"_","target":"_","many":true}]}]}"#;
+
+// A class that has a feature by two ways.
+const DIAMOND: &str =
+    r#"{"format":1,"classes":[{"name":"A","attributes":[{"name":"n","kind":"int"}]},{"name":"B","supers":["A"]},{"name":"C","supers":["A"]},{"name":"D","supers":["B","C"]}]}"#;
 
 // The model of a metamodel has this dump, and so has the dump itself.
 fn assert_dump(
@@ -158,6 +162,73 @@ fn a_right_document_has_its_dump(rt: HostRuntime) -> Result<(), Fail> {
                 r#"{"format":1,"next":3,"objects":[{"attributes":{"M":-1,"a":0,"z":3},"class":"Station","links":{"Line":["k"],"next":["s","t"]},"name":"s","number":0},"#,
                 r#"{"attributes":{},"class":"Track","links":{"a":["k"],"to":["t"]},"name":"k","number":1},"#,
                 r#"{"attributes":{"M":0,"a":5,"z":0},"class":"Station","links":{},"name":"t","number":2}]}"#,
+                "\n",
+            ),
+        ),
+        // No object of a class that is there.
+        (
+            r#"{"format":1,"classes":[{"name":"A"}]}"#,
+            r#"{"format":1,"objects":[]}"#,
+            "{\"format\":1,\"next\":0,\"objects\":[]}\n",
+        ),
+        // A feature that comes by two ways is there once.
+        (
+            DIAMOND,
+            r#"{"format":1,"objects":[{"name":"d","class":"D"}]}"#,
+            concat!(
+                r#"{"format":1,"next":1,"objects":[{"attributes":{"n":0},"class":"D","links":{},"name":"d","number":0}]}"#,
+                "\n",
+            ),
+        ),
+        // Values of each kind. A string without a value has no key, a literal stands by its name.
+        (
+            ZOO,
+            FIVE_THINGS,
+            concat!(
+                r#"{"format":1,"next":5,"objects":[{"attributes":{"mood":"ANGRY","n":3,"name":"b\"\n","wild":true},"class":"Cat","links":{"next":["a","b"]},"name":"a","number":0},"#,
+                r#"{"attributes":{"mood":"CALM","n":-1,"name":"B","wild":false},"class":"Cat","links":{"next":["c"]},"name":"b","number":1},"#,
+                r#"{"attributes":{"n":3},"class":"Dog","links":{"next":["a"]},"name":"c","number":2},"#,
+                r#"{"attributes":{"mood":"CALM","n":-20,"wild":false},"class":"Cat","links":{},"name":"d","number":3},"#,
+                r#"{"attributes":{"mood":"CALM","n":0,"name":"é","wild":false},"class":"Cat","links":{},"name":"e","number":4}]}"#,
+                "\n",
+            ),
+        ),
+        // A link brings the opposite one.
+        (
+            LIBRARY,
+            concat!(
+                r#"{"format":1,"objects":[{"name":"a","class":"Shelf","links":{"books":["x","y"]}},{"name":"b","class":"Shelf"},"#,
+                r#"{"name":"x","class":"Book","attributes":{"pages":5,"title":"X"}},{"name":"y","class":"Book","attributes":{"pages":5}},{"name":"z","class":"Book"}]}"#,
+            ),
+            concat!(
+                r#"{"format":1,"next":5,"objects":[{"attributes":{},"class":"Shelf","links":{"books":["x","y"]},"name":"a","number":0},"#,
+                r#"{"attributes":{},"class":"Shelf","links":{},"name":"b","number":1},"#,
+                r#"{"attributes":{"pages":5,"title":"X"},"class":"Book","links":{"shelf":["a"]},"name":"x","number":2},"#,
+                r#"{"attributes":{"pages":5},"class":"Book","links":{"shelf":["a"]},"name":"y","number":3},"#,
+                r#"{"attributes":{"pages":0},"class":"Book","links":{},"name":"z","number":4}]}"#,
+                "\n",
+            ),
+        ),
+        // The last of two targets stands where there is one at most, and its opposite with it.
+        (
+            LIBRARY,
+            concat!(
+                r#"{"format":1,"objects":[{"name":"a","class":"Shelf"},{"name":"x","class":"Book","links":{"twin":["y","z"],"shelf":["a"]}},"#,
+                r#"{"name":"y","class":"Book"},{"name":"z","class":"Book"}]}"#,
+            ),
+            concat!(
+                r#"{"format":1,"next":4,"objects":[{"attributes":{},"class":"Shelf","links":{"books":["x"]},"name":"a","number":0},"#,
+                r#"{"attributes":{"pages":0},"class":"Book","links":{"shelf":["a"],"twin":["z"]},"name":"x","number":1},"#,
+                r#"{"attributes":{"pages":0},"class":"Book","links":{},"name":"y","number":2},"#,
+                r#"{"attributes":{"pages":0},"class":"Book","links":{"pair":["x"]},"name":"z","number":3}]}"#,
+                "\n",
+            ),
+        ),
+        (
+            LIBRARY,
+            r#"{"format":1,"objects":[{"name":"_7","class":"Book","number":7}]}"#,
+            concat!(
+                r#"{"format":1,"next":8,"objects":[{"attributes":{"pages":0},"class":"Book","links":{},"name":"_7","number":7}]}"#,
                 "\n",
             ),
         ),

@@ -1,13 +1,16 @@
-// Models that are refused, each with its first fault. In a table each line is one case.
+// Metamodels and models that are refused, each with its first fault. In a table of text each line is
+// one case.
 use super::shown;
 use crate::{Ending, Role};
 use std::alloc::Global;
 use std::process::Abort;
 use std::test::Fail;
 
-// Nodes that lead to nodes, and tracks that lead to nodes.
+// Nodes that lead to nodes and hold nodes, and tracks that lead to nodes.
 const RAIL: &str = concat!(
-    r#"{"format":1,"classes":[{"name":"Node","attributes":[{"name":"w","kind":"int"}],"references":[{"name":"to","target":"Node","many":true}]},"#,
+    r#"{"format":1,"enums":[{"name":"Color","literals":["RED","GREEN"]}],"classes":[{"name":"Part","abstract":true},"#,
+    r#"{"name":"Node","supers":["Part"],"attributes":[{"name":"w","kind":"int"},{"name":"color","kind":"Color"},{"name":"on","kind":"boolean"},{"name":"text","kind":"string"}],"#,
+    r#""references":[{"name":"to","target":"Node","many":true},{"name":"parts","target":"Node","many":true,"containment":true}]},"#,
     r#"{"name":"Track","attributes":[{"name":"length","kind":"int"}],"references":[{"name":"from","target":"Node","many":true}]}]}"#,
 );
 
@@ -137,9 +140,6 @@ const NO_CLASSES: &str = r#"{"name":"p","class":"Zug"}
 {"name":"p","class":"Node\n"}
 {"name":"p","class":""}"#;
 
-const NAMES_TAKEN: &str = r#"{"name":"p","class":"Node"},{"name":"p","class":"Node"}
-{"name":"p","class":"Node"},{"name":"q","class":"Node"},{"name":"p","class":"Track"}"#;
-
 const NAMES_OF_OTHER_NUMBERS: &str = r#"{"name":"_","class":"Node"}
 {"name":"_p","class":"Node"}
 {"name":"_1","class":"Node"}
@@ -147,6 +147,7 @@ const NAMES_OF_OTHER_NUMBERS: &str = r#"{"name":"_","class":"Node"}
 {"name":"_07","class":"Node","number":7}
 {"name":"_7","class":"Node","number":8}"#;
 
+// Behind the creation of the one object.
 const NO_FEATURES: &str = r#"{"name":"p","class":"Node","attributes":{"v":1}}
 {"name":"p","class":"Node","attributes":{"v":null}}
 {"name":"p","class":"Node","attributes":{"W":1}}
@@ -155,38 +156,58 @@ const NO_FEATURES: &str = r#"{"name":"p","class":"Node","attributes":{"v":1}}
 {"name":"p","class":"Node","links":{"from":["p"]}}
 {"name":"p","class":"Node","links":{"t\to":["p"]}}"#;
 
-// A value on a reference, a link on an attribute, and a value that is no number.
+// A value on a reference, a link on an attribute, and a value of another kind.
 const WRONG_KINDS: &str = r#"{"name":"p","class":"Node","attributes":{"to":1}}
 {"name":"p","class":"Node","attributes":{"to":null}}
 {"name":"p","class":"Node","links":{"w":["p"]}}
 {"name":"p","class":"Node","attributes":{"w":"7"}}
 {"name":"p","class":"Node","attributes":{"w":""}}
 {"name":"p","class":"Node","attributes":{"w":true}}
-{"name":"p","class":"Node","attributes":{"w":false}}"#;
+{"name":"p","class":"Node","attributes":{"w":false}}
+{"name":"p","class":"Node","attributes":{"on":0}}
+{"name":"p","class":"Node","attributes":{"on":"true"}}
+{"name":"p","class":"Node","attributes":{"text":7}}
+{"name":"p","class":"Node","attributes":{"color":0}}
+{"name":"p","class":"Node","attributes":{"color":true}}"#;
 
-// No object of the name, and one of another class.
-const NO_TARGETS: &str = r#"{"name":"p","class":"Node","links":{"to":["q"]}}
-{"name":"p","class":"Node","links":{"to":["p","P"]}}
-{"name":"p","class":"Node","links":{"to":["t"]}},{"name":"t","class":"Track"}
-{"name":"t","class":"Track","links":{"from":["p","t"]}},{"name":"p","class":"Node"}"#;
+const NO_LITERALS: &str = r#"{"name":"p","class":"Node","attributes":{"color":"BLUE"}}
+{"name":"p","class":"Node","attributes":{"color":"red"}}
+{"name":"p","class":"Node","attributes":{"color":"Color::RED"}}
+{"name":"p","class":"Node","attributes":{"color":""}}"#;
 
-// A model is refused, with this number of its fault and this line.
+// A file is refused, with this fault at this place and the line that says so.
 fn assert_refused(
     rt: &impl Abort,
     alloc: Global,
+    meta: &str,
     model: &str,
-    code: u16,
-    line: &str,
+    file: Role,
+    fault: (u16, &str, u64),
 ) -> Result<(), Fail> {
-    let (ending, text) = shown(alloc, RAIL, model.as_bytes())?;
-    let bad_model = Ending::BadInput {
-        file: Role::Model,
-        code,
-        place: 0,
+    let (code, name, place) = fault;
+    let (ending, text) = shown(alloc, meta, model.as_bytes())?;
+    let role = match file {
+        Role::Metamodel => "metamodel",
+        _ => "model",
     };
-    assert_eq!(rt; ending, bad_model, "{model}");
-    assert_eq!(rt; text.as_str(), line, "{model}");
+    let line = format!(in alloc; "fault: {role} {name} {place}\n")?;
+    assert_eq!(rt;
+        ending,
+        Ending::BadInput { file, code, place },
+        "{meta} {model}"
+    );
+    assert_eq!(rt; text.as_str(), line.as_str(), "{meta} {model}");
     Ok(())
+}
+
+// A model of the rail is refused.
+fn assert_no_model(
+    rt: &impl Abort,
+    alloc: Global,
+    model: &str,
+    fault: (u16, &str, u64),
+) -> Result<(), Fail> {
+    assert_refused(rt, alloc, RAIL, model, Role::Model, fault)
 }
 
 // The document with these objects.
@@ -195,12 +216,72 @@ fn with_objects(alloc: Global, objects: &str) -> Result<String, Fail> {
 }
 
 #[test]
-fn a_model_that_is_no_json_is_refused(rt: HostRuntime) -> Result<(), Fail> {
+fn a_metamodel_is_refused_for_its_first_fault(rt: HostRuntime) -> Result<(), Fail> {
     let alloc = rt.alloc();
-    let line = "fault: model NotJson 0\n";
+    for (meta, fault) in [
+        ("{", (1, "NotJson", 0)),
+        (r#"{"format":1,"classes":[{"name":"A"}]"#, (1, "NotJson", 0)),
+        ("[]", (2, "BadShape", 0)),
+        (
+            r#"{"format":1,"classes":[{"name":"A"},{"name":"1"}]}"#,
+            (2, "BadShape", 0),
+        ),
+        // An earlier fault of a later kind doesn't count. Enums are counted before classes.
+        (
+            r#"{"format":1,"enums":[{"name":"E","literals":["L"]}],"classes":[{"name":"A","supers":["Z"]},{"name":"A"},{"name":"A"}]}"#,
+            (3, "DuplicateName", 2),
+        ),
+        (
+            r#"{"format":1,"enums":[{"name":"E","literals":["L"]},{"name":"F","literals":["M","M"]}],"classes":[{"name":"int"}]}"#,
+            (3, "DuplicateName", 1),
+        ),
+        (
+            r#"{"format":1,"enums":[{"name":"E","literals":["L"]}],"classes":[{"name":"A","attributes":[{"name":"e","kind":"E"}]},{"name":"B","attributes":[{"name":"m","kind":"A"}]}]}"#,
+            (4, "UnknownType", 2),
+        ),
+        (
+            r#"{"format":1,"classes":[{"name":"A"},{"name":"B","supers":["C"]},{"name":"C","supers":["B"]}]}"#,
+            (5, "SuperCycle", 1),
+        ),
+        (
+            r#"{"format":1,"classes":[{"name":"A"},{"name":"B","references":[{"name":"x","target":"A","opposite":"y"}]}]}"#,
+            (6, "BadOpposite", 1),
+        ),
+        (
+            concat!(
+                r#"{"format":1,"classes":[{"name":"A"},{"name":"B","references":[{"name":"x","target":"C","containment":true,"opposite":"y"}]},"#,
+                r#"{"name":"C","references":[{"name":"y","target":"B","many":true,"opposite":"x"}]}]}"#,
+            ),
+            (7, "BadContainment", 1),
+        ),
+        (
+            concat!(
+                r#"{"format":1,"classes":[{"name":"A"},{"name":"B","supers":["A"],"attributes":[{"name":"m","kind":"int"}]},"#,
+                r#"{"name":"C","supers":["A"],"attributes":[{"name":"m","kind":"int"}]},{"name":"D","supers":["B","C"]}]}"#,
+            ),
+            (8, "FeatureClash", 3),
+        ),
+    ] {
+        assert_refused(&rt, alloc, meta, "{", Role::Metamodel, fault)?;
+    }
+    // One literal too many: the place is the count.
+    let mut meta = String::from_str(alloc, r#"{"format":1,"enums":[{"name":"E","literals":["L""#)?;
+    for n in 1..1025u64 {
+        let literal = format!(in alloc; ",\"L{n}\"")?;
+        meta.push_str(literal.as_str())?;
+    }
+    meta.push_str(r#"]}],"classes":[]}"#)?;
+    let fault = (9, "TooMany", 1025);
+    assert_refused(&rt, alloc, meta.as_str(), "{", Role::Metamodel, fault)
+}
+
+#[test]
+fn a_model_without_its_shape_is_refused(rt: HostRuntime) -> Result<(), Fail> {
+    let alloc = rt.alloc();
+    let no_json = (1, "NotJson", 0);
     for table in [CUT_OFF_OR_GONE_ON, NO_NUMBERS_AND_TEXTS] {
         for model in table.lines() {
-            assert_refused(&rt, alloc, model, 1, line)?;
+            assert_no_model(&rt, alloc, model, no_json)?;
         }
     }
     for model in [
@@ -209,17 +290,12 @@ fn a_model_that_is_no_json_is_refused(rt: HostRuntime) -> Result<(), Fail> {
         "\u{feff}{\"format\":1,\"objects\":[]}",
         "{\"format\":1,\"objects\":[{\"name\":\"p\t\",\"class\":\"Node\"}]}",
     ] {
-        assert_refused(&rt, alloc, model, 1, line)?;
+        assert_no_model(&rt, alloc, model, no_json)?;
     }
     let (_, text) = shown(alloc, RAIL, b"{\"format\":1,\"objects\":[],\"\xff\":0}")?;
-    assert_eq!(rt; text.as_str(), line);
-    Ok(())
-}
+    assert_eq!(rt; text.as_str(), "fault: model NotJson 0\n");
 
-#[test]
-fn a_model_of_another_shape_is_refused(rt: HostRuntime) -> Result<(), Fail> {
-    let alloc = rt.alloc();
-    let line = "fault: model BadShape 0\n";
+    let bad_shape = (2, "BadShape", 0);
     for table in [
         OTHER_VALUES,
         FORMATS,
@@ -228,34 +304,113 @@ fn a_model_of_another_shape_is_refused(rt: HostRuntime) -> Result<(), Fail> {
         NEXT_NUMBERS,
     ] {
         for model in table.lines() {
-            assert_refused(&rt, alloc, model, 2, line)?;
+            assert_no_model(&rt, alloc, model, bad_shape)?;
         }
     }
     for table in [OBJECT_KEYS, NAMES, NUMBERS, ATTRIBUTES, LINKS, ALSO_REFUSED] {
         for objects in table.lines() {
             let model = with_objects(alloc, objects)?;
-            assert_refused(&rt, alloc, model.as_str(), 2, line)?;
+            assert_no_model(&rt, alloc, model.as_str(), bad_shape)?;
         }
     }
     Ok(())
 }
 
 #[test]
-fn a_model_whose_change_is_refused_is_refused(rt: HostRuntime) -> Result<(), Fail> {
+fn a_model_is_refused_for_its_first_refused_change(rt: HostRuntime) -> Result<(), Fail> {
     let alloc = rt.alloc();
-    let line = "fault: model NotBuilt 0\n";
-    for table in [
-        NO_CLASSES,
-        NAMES_TAKEN,
-        NAMES_OF_OTHER_NUMBERS,
-        NO_FEATURES,
-        WRONG_KINDS,
-        NO_TARGETS,
+    for (table, fault) in [
+        (NO_CLASSES, (103, "UnknownClass", 0)),
+        (NAMES_OF_OTHER_NUMBERS, (106, "ReservedName", 0)),
+        (NO_FEATURES, (107, "UnknownFeature", 1)),
+        (WRONG_KINDS, (108, "WrongKind", 1)),
+        (NO_LITERALS, (109, "WrongValue", 1)),
     ] {
         for objects in table.lines() {
             let model = with_objects(alloc, objects)?;
-            assert_refused(&rt, alloc, model.as_str(), 90, line)?;
+            assert_no_model(&rt, alloc, model.as_str(), fault)?;
         }
+    }
+    // Behind changes that are made, and before one that is refused too.
+    for (objects, fault) in [
+        (
+            r#"{"name":"p","class":"Node"},{"name":"q","class":"Zug"},{"name":"r","class":"Part"}"#,
+            (103, "UnknownClass", 1),
+        ),
+        (
+            r#"{"name":"p","class":"Node"},{"name":"q","class":"Part"},{"name":"p","class":"Node"}"#,
+            (104, "AbstractClass", 1),
+        ),
+        (
+            r#"{"name":"p","class":"Node"},{"name":"q","class":"Node"},{"name":"p","class":"Track"},{"name":"_1","class":"Node"}"#,
+            (105, "NameTaken", 2),
+        ),
+        (
+            r#"{"name":"_0","class":"Node"},{"name":"_2","class":"Node"},{"name":"r","class":"Zug"}"#,
+            (106, "ReservedName", 1),
+        ),
+        (
+            r#"{"name":"p","class":"Node","attributes":{"w":1}},{"name":"q","class":"Track","attributes":{"w":1,"length":2},"links":{"from":["r"]}}"#,
+            (107, "UnknownFeature", 4),
+        ),
+        (
+            r#"{"name":"p","class":"Node","attributes":{"zug":1,"on":7,"color":"RED"}}"#,
+            (108, "WrongKind", 2),
+        ),
+        (
+            r#"{"name":"p","class":"Node","attributes":{"color":"GREEN"}},{"name":"q","class":"Node","attributes":{"w":"","color":"BLUE"}}"#,
+            (109, "WrongValue", 3),
+        ),
+        (
+            r#"{"name":"p","class":"Node","links":{"to":["q","r","t"]}},{"name":"q","class":"Node"},{"name":"t","class":"Track"}"#,
+            (101, "UnknownObject", 4),
+        ),
+        (
+            r#"{"name":"p","class":"Node","links":{"to":["q","t","r"]}},{"name":"q","class":"Node"},{"name":"t","class":"Track"}"#,
+            (110, "WrongTarget", 4),
+        ),
+        (
+            r#"{"name":"p","class":"Node","links":{"parts":["q"]}},{"name":"q","class":"Node","links":{"to":["s"],"parts":["r","p"]}},{"name":"r","class":"Node"}"#,
+            (111, "ContainmentCycle", 5),
+        ),
+        // The keys rise within an object, and attributes come before all links.
+        (
+            r#"{"name":"p","class":"Node","links":{"to":["r"]},"attributes":{"w":1}},{"name":"q","class":"Node","attributes":{"w":""}}"#,
+            (108, "WrongKind", 3),
+        ),
+        (
+            r#"{"name":"p","class":"Node","links":{"to":["r"],"from":["p"]}}"#,
+            (107, "UnknownFeature", 1),
+        ),
+        // An object in itself.
+        (
+            r#"{"name":"p","class":"Node","links":{"parts":["p"]}}"#,
+            (111, "ContainmentCycle", 1),
+        ),
+        // Of a change's refusals the first is told.
+        (
+            r#"{"name":"p","class":"Node"},{"name":"p","class":"Zug"}"#,
+            (103, "UnknownClass", 1),
+        ),
+        (
+            r#"{"name":"p","class":"Node"},{"name":"p","class":"Part"}"#,
+            (104, "AbstractClass", 1),
+        ),
+        (
+            r#"{"name":"_0","class":"Node"},{"name":"_0","class":"Node"}"#,
+            (105, "NameTaken", 1),
+        ),
+        (
+            r#"{"name":"p","class":"Node","links":{"zug":["r"]}}"#,
+            (101, "UnknownObject", 1),
+        ),
+        (
+            r#"{"name":"p","class":"Node","links":{"w":["r"]}}"#,
+            (101, "UnknownObject", 1),
+        ),
+    ] {
+        let model = with_objects(alloc, objects)?;
+        assert_no_model(&rt, alloc, model.as_str(), fault)?;
     }
     Ok(())
 }

@@ -1,0 +1,111 @@
+-- At most one outcome is due.
+use Rattle.std.proofs.Common.{ℕ, ◌≡◌, ◌≢◌, ◌⊎◌, List, Option, Some, None, Result, Ok, Err, sym, ◌∙◌, ap, subst, inl, inr}
+use Rattle.vt_base.specs.Base.{Counts}
+use Rattle.vt_base.specs.declared.value.Value.{Value}
+use Rattle.vt_outside.specs.Shelf.{NamedFiles, file_at}
+use Rattle.vt_meta.specs.Base.{counts_of}
+use Rattle.vt_meta.specs.Metamodel.{Metamodel, enum_names}
+use Rattle.vt_meta.specs.Model.{Model, object_names}
+use Rattle.vt_query.specs.Calls.{IsAcyclic}
+use Rattle.vt_query.specs.Narrow.{IsNarrow}
+use Rattle.vt_query.specs.Tables.{StandFor}
+use Rattle.vt_query.specs.declared.program.Program.{Program}
+use Rattle.vt_vql.specs.Queries.{Accepts, IsFaultOf}
+use Rattle.vt_vql.specs.declared.fault.QueryFault.{QueryFault}
+use Rattle.vt_vql.specs.declared.fault.QueryFault.TheVariants.{NoMemory}
+use Rattle.vt_model_json.specs.Held.{Held}
+use Rattle.vt_cli.specs.Command.{Command, show, matches, command_of}
+use Rattle.vt_cli.specs.Lists.{match_lists}
+use Rattle.vt_cli.specs.Refusals.{refused_queries}
+use Rattle.vt_cli.specs.Result.{bytes_of, documents_of, loaded_from, shown, done, IsListed, IsMatched, IsRefused, IsDueTo, IsDueToCommand, IsDue}
+use Rattle.vt_cli.specs.declared.fetching.Documents.{Documents}
+use Rattle.vt_cli.specs.declared.ending.Role.TheVariants as role
+use Rattle.vt_cli.specs.declared.ending.Outcome.{Outcome}
+
+-- ---- what the crates below promise
+
+pub record Below : Type 0 where
+  pub one_program : (meta : Metamodel) (bytes : List ℕ) (program other : Program)
+      → Accepts meta bytes program → Accepts meta bytes other → program ≡ other
+  pub no_fault : (meta : Metamodel) (bytes : List ℕ) (program : Program) (fault : QueryFault)
+      → Accepts meta bytes program → fault ≢ NoMemory → IsFaultOf meta bytes fault → ⊥
+  pub one_fault : (meta : Metamodel) (bytes : List ℕ) (fault other : QueryFault)
+      → fault ≢ NoMemory → other ≢ NoMemory → IsFaultOf meta bytes fault → IsFaultOf meta bytes other → fault ≡ other
+  pub narrow : (meta : Metamodel) (bytes : List ℕ) (program : Program) → Accepts meta bytes program → IsNarrow (counts_of meta) program
+  pub acyclic : (counts : Counts) (program : Program) → IsNarrow counts program → IsAcyclic program
+  pub one_list : (meta : Metamodel) (g : Model) (program : Program) (tables others : List (List (List Value)))
+      → IsAcyclic program → StandFor meta g program tables → StandFor meta g program others → tables ≡ others
+
+-- ---- what comes first, or what is due to the rest
+
+abbrev IsAtMostOne : (Outcome → Type 0) → Type 0
+IsAtMostOne due = (outcome other : Outcome) → due outcome → due other → outcome ≡ other
+
+one_due : {A : Type 0} (first : Result A Outcome) (rest : A → Outcome → Type 0)
+    → ((x : A) → IsAtMostOne (rest x)) → IsAtMostOne (IsDueTo first rest)
+one_due (Err given) rest one outcome other e f = e ∙ sym f
+one_due (Ok x) rest one outcome other e f = one x outcome other e f
+
+-- ---- refusals
+
+-- a fault that has an outcome is no want of memory
+has_outcome : (fault : QueryFault) (outcome : Outcome) → refused_queries fault ≡ Some outcome → fault ≢ NoMemory
+has_outcome fault outcome e h = let none : None ≡ Some outcome = sym (ap refused_queries h) ∙ e in cc
+
+some_same : (x y : Outcome) → Some x ≡ Some y → x ≡ y
+some_same x y e = cc
+
+module _ (below : Below) (l : Held) (bytes : List ℕ) where
+  one_refusal : IsAtMostOne (IsRefused l bytes)
+  one_refusal outcome other a b =
+      let same = below.one_fault l.meta bytes a.fault b.fault (has_outcome a.fault outcome a.is) (has_outcome b.fault other b.is) a.stands b.stands in
+      some_same outcome other (sym a.is ∙ ap refused_queries same ∙ b.is)
+
+  -- ---- match lists
+
+  one_listing : (program : Program) → IsAcyclic program → IsAtMostOne (IsListed l program)
+  one_listing program acyclic outcome other a b =
+      let same = below.one_list l.meta l.model program a.tables b.tables acyclic a.stand b.stand in
+      a.is ∙ ap (λ tables. done (match_lists (enum_names l.meta) (object_names l.model) program.patterns tables)) same ∙ sym b.is
+
+  one_match : IsAtMostOne (IsMatched l bytes)
+  one_match outcome other a b =
+      let same = below.one_program l.meta bytes b.program a.program b.accepts a.accepts in
+      let acyclic = below.acyclic (counts_of l.meta) a.program (below.narrow l.meta bytes a.program a.accepts) in
+      one_listing a.program acyclic outcome other a.listed (subst (λ program. IsListed l program other) same b.listed)
+
+  -- a file that is matched is not refused
+  not_both : (outcome other : Outcome) → IsMatched l bytes outcome → IsRefused l bytes other → ⊥
+  not_both outcome other a b = below.no_fault l.meta bytes a.program b.fault a.accepts (has_outcome b.fault other b.is) b.stands
+
+  abbrev IsMatchedOrRefused : Outcome → Type 0
+  IsMatchedOrRefused outcome = IsMatched l bytes outcome ⊎ IsRefused l bytes outcome
+
+  one_answer : IsAtMostOne IsMatchedOrRefused
+  one_answer outcome other (inl a) (inl b) = one_match outcome other a b
+  one_answer outcome other (inl a) (inr b) = absurd (not_both outcome other a b)
+  one_answer outcome other (inr a) (inl b) = absurd (not_both other outcome b a)
+  one_answer outcome other (inr a) (inr b) = one_refusal outcome other a b
+
+-- ---- commands
+
+one_shown : (l : Held) → IsAtMostOne (λ o. o ≡ shown l)
+one_shown l outcome other e f = e ∙ sym f
+
+one_due_to_command : Below → (command : Option Command) (files : NamedFiles) → IsAtMostOne (IsDueToCommand command files)
+one_due_to_command below None files outcome other e f = e ∙ sym f
+one_due_to_command below (Some (show metamodel model)) files outcome other e f =
+    one_due (documents_of files metamodel model) (λ documents o. IsDueTo (loaded_from documents) (λ l p. p ≡ shown l) o)
+    (λ documents. one_due (loaded_from documents) (λ l p. p ≡ shown l) one_shown)
+    outcome other e f
+one_due_to_command below (Some (matches metamodel model queries)) files outcome other e f =
+    let rest : Documents → List ℕ → Outcome → Type 0 = λ documents bytes p. IsDueTo (loaded_from documents) (λ l q. IsMatched l bytes q ⊎ IsRefused l bytes q) p in
+    let query_file = bytes_of role.Queries (file_at files queries) in
+    one_due (documents_of files metamodel model) (λ documents o. IsDueTo query_file (rest documents) o)
+    (λ documents. one_due query_file (rest documents)
+    (λ bytes. one_due (loaded_from documents) (λ l q. IsMatched l bytes q ⊎ IsRefused l bytes q) (λ l. one_answer below l bytes)))
+    outcome other e f
+
+pub one_outcome : Below → (words : List (List ℕ)) (files : NamedFiles) (outcome other : Outcome)
+    → IsDue words files outcome → IsDue words files other → outcome ≡ other
+one_outcome below words files outcome other e f = one_due_to_command below (command_of words) files outcome other e f
