@@ -7,3 +7,4 @@ pub mod RisingLemmas
 pub mod NamesLemmas
 pub mod JoinedLemmas
 pub mod NoFloats
+pub mod DumpLoads

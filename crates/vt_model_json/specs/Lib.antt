@@ -2,6 +2,7 @@
 pub mod ModelDocument
 pub mod Loading
 pub mod Dump
+pub mod Writable
 pub mod Held
 -- what the functions inside the crate promise each other
 pub mod Inside

@@ -1,7 +1,7 @@
 //! Model documents: read into a model, and written as its dump. And a model as queries see it.
 //!
 //! It stands on `vt_json` and `vt_meta`. Read `specs/ModelDocument.antt`, `specs/Loading.antt`,
-//! `specs/Dump.antt`, then `specs/Held.antt`.
+//! `specs/Dump.antt`, `specs/Writable.antt`, then `specs/Held.antt`.
 #![tactic(auto)]
 
 // A document, and the model that it makes.
@@ -13,6 +13,7 @@ mod place;
 mod store;
 // The text of a model.
 mod dump;
+mod laws;
 
 // A document, and the model that it makes.
 pub use loading::{ModelFault, read_model};
@@ -20,6 +21,7 @@ pub use loading::{ModelFault, read_model};
 pub use store::ListStore;
 // The text of a model.
 pub use dump::write_model;
+pub use laws::dump_loads_back;
 
 #[cfg(test)]
 mod tests;

@@ -1,0 +1,12 @@
+-- The dump of a valid model loads to it.
+pub mod Made
+pub mod Lists
+pub mod Displaced
+pub mod Names
+pub mod Links
+pub mod Given
+pub mod Values
+pub mod Objects
+pub mod Spelled
+pub mod Attributes
+pub mod References
