@@ -10,3 +10,4 @@ pub mod Objects
 pub mod Spelled
 pub mod Attributes
 pub mod References
+pub mod Shape

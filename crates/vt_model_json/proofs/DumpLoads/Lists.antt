@@ -1,6 +1,6 @@
 -- Lists that rise, and lists in which one item at most passes a test.
-use Rattle.std.proofs.Common.{◌≡◌, ◌+◌, List, [], ◌∷◌, refl, sym, ap, subst, ◌∙◌, cond, arith, Bool, true, false, ◌⊎◌, inl, inr}
-use Rattle.std.specs.Prelude.{◌≤◌, ◌&&◌, All, Contains, count_by, filter}
+use Rattle.std.proofs.Common.{◌≡◌, ◌+◌, List, [], ◌∷◌, ◌++◌, map, refl, sym, ap, subst, ◌∙◌, cond, arith, Bool, true, false, ◌⊎◌, inl, inr}
+use Rattle.std.specs.Prelude.{◌≤◌, ◌&&◌, All, Contains, count_by, filter, flat_map}
 use Rattle.std.specs.List.Sorted.{IsStrictlySortedBy}
 use Rattle.std.specs.BTreeSet.{insert_key}
 use Rattle.std.specs.Cmp.{IsTotalOrder}
@@ -8,10 +8,44 @@ use Rattle.std.specs.Ordering.{match_ordering, ordering_reverse}
 use Rattle.std.specs.declared.cmp.Ordering.{Ordering}
 use Rattle.std.specs.declared.cmp.Ordering.TheVariants.{Less, Equal, Greater}
 use Rattle.std.proofs.lemmas.Cmp.{tied_itself}
-use Rattle.std.proofs.lemmas.List.Elements.{All-contains, All-from_recursion}
+use Rattle.std.proofs.lemmas.List.Elements.{All-contains, All-from_recursion, Contains-append_left, Contains-append_right, Contains-append_cases}
 use Rattle.std.proofs.lemmas.Map.Keys.{sorted_head, sorted_tail}
 use Rattle.vt_meta.proofs.MemberLemmas.{Contains-head, Contains-behind, Contains-nil, Contains-cons_cases}
 use Rattle.vt_meta.proofs.Valid.Counts.{count_by-cons, count_by-yes, count_by-no}
+
+-- ---- lists made of others
+
+-- what stands in a list that is changed comes from what is changed to it
+pub Contains-map_cases : {X Y : Type 0} (f : X → Y) (xs : List X) (y : Y) → Contains (map f xs) y → (x : X) × Contains xs x × (f x ≡ y)
+Contains-map_cases f [] y there = absurd (Contains-nil y there)
+Contains-map_cases f (x ∷ xs) y there = by (λ later. Contains-map_cases f xs y later) (Contains-cons_cases (f x) y (map f xs) there)
+  where
+    by : (Contains (map f xs) y → (z : _) × Contains xs z × (f z ≡ y)) → (f x ≡ y) ⊎ Contains (map f xs) y → (z : _) × Contains (x ∷ xs) z × (f z ≡ y)
+    by rest (inl is) = (x, Contains-head x xs, is)
+    by rest (inr later) = let from = rest later in (from.0, Contains-behind x from.0 xs from.1, from.2)
+
+-- what is changed to the same
+pub map_same : {X Y : Type 0} (f h : X → Y) (xs : List X) → ((x : X) → Contains xs x → f x ≡ h x) → map f xs ≡ map h xs
+map_same f h [] each = refl
+map_same f h (x ∷ xs) each = ap (λ y. y ∷ map f xs) (each x (Contains-head x xs)) ∙ ap (λ ys. h x ∷ ys) (map_same f h xs (λ y there. each y (Contains-behind x y xs there)))
+
+-- what stands in one of the lists stands in all of them together
+pub Contains-flat_map : {X Y : Type 0} (f : X → List Y) (xs : List X) (x : X) (y : Y) → Contains xs x → Contains (f x) y → Contains (flat_map f xs) y
+Contains-flat_map f [] x y there among = absurd (Contains-nil x there)
+Contains-flat_map f (z ∷ xs) x y there among = by (λ later. Contains-flat_map f xs x y later among) (Contains-cons_cases z x xs there)
+  where
+    by : (Contains xs x → Contains (flat_map f xs) y) → (z ≡ x) ⊎ Contains xs x → Contains (f z ++ flat_map f xs) y
+    by rest (inl is) = Contains-append_left (f z) (flat_map f xs) y (subst (λ w. Contains (f w) y) (sym is) among)
+    by rest (inr later) = Contains-append_right (f z) (flat_map f xs) y (rest later)
+
+-- and back
+pub Contains-flat_map_cases : {X Y : Type 0} (f : X → List Y) (xs : List X) (y : Y) → Contains (flat_map f xs) y → (x : X) × Contains xs x × Contains (f x) y
+Contains-flat_map_cases f [] y there = absurd (Contains-nil y there)
+Contains-flat_map_cases f (x ∷ xs) y there = by (λ later. Contains-flat_map_cases f xs y later) (Contains-append_cases (f x) (flat_map f xs) y there)
+  where
+    by : (Contains (flat_map f xs) y → (z : _) × Contains xs z × Contains (f z) y) → Contains (f x) y ⊎ Contains (flat_map f xs) y → (z : _) × Contains (x ∷ xs) z × Contains (f z) y
+    by rest (inl here) = (x, Contains-head x xs, here)
+    by rest (inr later) = let from = rest later in (from.0, Contains-behind x from.0 xs from.1, from.2)
 
 -- ---- one item at most passes
 

@@ -65,7 +65,7 @@ leb-above : (n : ℕ) → n < 1048576 → nat_le 1048576 n ≡ false
 leb-above n below = grind (arith, nat_tests)
 
 -- what comes later has a greater number
-object_order-Less : (o p : Object) → object_order o p ≡ Less → o.number.0 < p.number.0
+pub object_order-Less : (o p : Object) → object_order o p ≡ Less → o.number.0 < p.number.0
 object_order-Less o p less = grind (arith, nat_tests)
 
 -- a model with the first objects of another one, whose values are defaults
