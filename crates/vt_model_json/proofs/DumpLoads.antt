@@ -11,3 +11,4 @@ pub mod Spelled
 pub mod Attributes
 pub mod References
 pub mod Shape
+pub mod Changes

@@ -8,6 +8,7 @@ use Rattle.std.specs.Ordering.{match_ordering, ordering_reverse}
 use Rattle.std.specs.declared.cmp.Ordering.{Ordering}
 use Rattle.std.specs.declared.cmp.Ordering.TheVariants.{Less, Equal, Greater}
 use Rattle.std.proofs.lemmas.Cmp.{tied_itself}
+use Rattle.std.proofs.lemmas.List.{map-append}
 use Rattle.std.proofs.lemmas.List.Elements.{All-contains, All-from_recursion, Contains-append_left, Contains-append_right, Contains-append_cases}
 use Rattle.std.proofs.lemmas.Map.Keys.{sorted_head, sorted_tail}
 use Rattle.vt_meta.proofs.MemberLemmas.{Contains-head, Contains-behind, Contains-nil, Contains-cons_cases}
@@ -28,6 +29,24 @@ Contains-map_cases f (x ∷ xs) y there = by (λ later. Contains-map_cases f xs 
 pub map_same : {X Y : Type 0} (f h : X → Y) (xs : List X) → ((x : X) → Contains xs x → f x ≡ h x) → map f xs ≡ map h xs
 map_same f h [] each = refl
 map_same f h (x ∷ xs) each = ap (λ y. y ∷ map f xs) (each x (Contains-head x xs)) ∙ ap (λ ys. h x ∷ ys) (map_same f h xs (λ y there. each y (Contains-behind x y xs there)))
+
+-- what is changed twice to the same
+pub map_map_same : {X Y Z : Type 0} (f : Y → Z) (h : X → Y) (k : X → Z) (xs : List X) → ((x : X) → Contains xs x → f (h x) ≡ k x) → map f (map h xs) ≡ map k xs
+map_map_same f h k [] each = refl
+map_map_same f h k (x ∷ xs) each = ap (λ y. y ∷ map f (map h xs)) (each x (Contains-head x xs)) ∙ ap (λ ys. k x ∷ ys) (map_map_same f h k xs (λ y there. each y (Contains-behind x y xs there)))
+
+-- lists made of each item of a list are what all their items are changed to
+pub flat_map_same : {X Y Z : Type 0} (f : X → List Z) (h : Y → Z) (k : X → List Y) (xs : List X) → ((x : X) → Contains xs x → f x ≡ map h (k x)) → flat_map f xs ≡ map h (flat_map k xs)
+flat_map_same f h k [] each = refl
+flat_map_same f h k (x ∷ xs) each =
+    ap (λ ys. ys ++ flat_map f xs) (each x (Contains-head x xs))
+    ∙ ap (λ ys. map h (k x) ++ ys) (flat_map_same f h k xs (λ y there. each y (Contains-behind x y xs there)))
+    ∙ sym (map-append h (k x) (flat_map k xs))
+
+-- the same where the items are made of others
+pub flat_map_map : {X Y Z : Type 0} (f : Y → List Z) (h : X → Y) (xs : List X) → flat_map f (map h xs) ≡ flat_map (λ x. f (h x)) xs
+flat_map_map f h [] = refl
+flat_map_map f h (x ∷ xs) = ap (λ ys. f (h x) ++ ys) (flat_map_map f h xs)
 
 -- what stands in one of the lists stands in all of them together
 pub Contains-flat_map : {X Y : Type 0} (f : X → List Y) (xs : List X) (x : X) (y : Y) → Contains xs x → Contains (f x) y → Contains (flat_map f xs) y
@@ -58,6 +77,18 @@ module _ {X : Type 0} (p : X → Bool) where
       by : (Contains xs x → 1 ≤ count_by p xs) → (y ≡ x) ⊎ Contains xs x → 1 ≤ count_by p (y ∷ xs)
       by rest (inl is) = let more = count_by-yes p y xs (ap p is ∙ passes) in omega (arith, more)
       by rest (inr later) = let all = count_by-cons p y xs in omega (arith, all, rest later)
+
+  -- where some are counted, one stands there
+  pub some_counted : (xs : List X) → 1 ≤ count_by p xs → (x : X) × Contains xs x × (p x ≡ true)
+  some_counted [] some = absurd (omega (arith, some))
+  some_counted (y ∷ xs) some = by (some_counted xs) (p y) refl
+    where
+      by : (1 ≤ count_by p xs → (x : X) × Contains xs x × (p x ≡ true)) → (b : Bool) → p y ≡ b → (x : X) × Contains (y ∷ xs) x × (p x ≡ true)
+      by rest true passes = (y, Contains-head y xs, passes)
+      by rest false fails =
+          let less = count_by-no p y xs fails in
+          let later = rest (omega (arith, some, less)) in
+          (later.0, Contains-behind y later.0 xs later.1, later.2)
 
   -- two that pass are the same
   pub only_one : (xs : List X) (x y : X) → count_by p xs ≤ 1 → Contains xs x → Contains xs y → p x ≡ true → p y ≡ true → x ≡ y

@@ -47,7 +47,7 @@ value_order-Equal : (t u : AttributeValue) → value_order t u ≡ Equal → (t.
 value_order-Equal t u e = grind (arith, nat_tests)
 
 -- and so does the test
-is_value_of-same : (o : ObjId) (a : AttrId) (t : AttributeValue) → o.0 ≡ t.object.0 → a.0 ≡ t.attribute.0 → is_value_of o a t ≡ true
+pub is_value_of-same : (o : ObjId) (a : AttrId) (t : AttributeValue) → o.0 ≡ t.object.0 → a.0 ≡ t.attribute.0 → is_value_of o a t ≡ true
 is_value_of-same o a t object attribute = grind (arith, nat_tests)
 
 pub is_value_of-parts : (o : ObjId) (a : AttrId) (t : AttributeValue) → is_value_of o a t ≡ true → (t.object.0 ≡ o.0) × (t.attribute.0 ≡ a.0)
