@@ -12,3 +12,4 @@ pub mod Attributes
 pub mod References
 pub mod Shape
 pub mod Changes
+pub mod ReadBack
