@@ -13,3 +13,6 @@ pub mod References
 pub mod Shape
 pub mod Changes
 pub mod ReadBack
+pub mod PlainNames
+pub mod MetaShapes
+pub mod MetaNames

@@ -1,3 +1,4 @@
+use Rattle.vt_model_json.proofs.DumpLoads.MetaNames.{IsNamed-meta_of}
 use Rattle.vt_model_json.proofs.DumpLoads.ReadBack.{json_of-compact_text}
 use Rattle.vt_model_json.proofs.DumpLoads.Changes.{transaction-live}
 use Rattle.vt_model_json.proofs.DumpLoads.Shape.{document_of}
