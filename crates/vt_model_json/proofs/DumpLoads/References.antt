@@ -1,6 +1,7 @@
 -- The references of an object that have targets: members of its data.
 use Rattle.std.proofs.Common.{◌≡◌, ℕ, zero, suc, ◌+◌, List, [], ◌∷◌, length, map, refl, sym, ap, subst, ◌∙◌, arith, Bool, true, false, ◌⊎◌, inl, inr}
 use Rattle.std.specs.Prelude.{◌==◌, ◌<◌, Contains, filter, slice_get, Option, Some, None, option_map, unwrap_or}
+use Rattle.std.specs.List.Sorted.{IsStrictlySortedBy}
 use Rattle.std.specs.BTreeSet.{insert_key}
 use Rattle.std.specs.declared.cmp.Ordering.TheVariants.{Equal}
 use Rattle.std.proofs.lemmas.Bool.{eqb-true, eq-eqb}
@@ -20,12 +21,13 @@ use Rattle.vt_meta.specs.declared.metamodel.Feature.TheVariants.{Ref}
 use Rattle.vt_meta.specs.declared.model.Object.{Object}
 use Rattle.vt_meta.specs.declared.model.Link.{Link}
 use Rattle.vt_meta.proofs.MemberLemmas.{Contains-head, Contains-nil, Contains-map, Contains-filter, Contains-from_filter, Contains-insert_key_old}
+use Rattle.vt_meta.proofs.OrderedLemmas.{IsStrictlySortedBy-insert_key}
 use Rattle.vt_meta.proofs.Valid.Containment.{same_object}
 use Rattle.vt_model_json.specs.Dump.{name_of, links_of, target_names, texts, with_targets, link_members}
 use Rattle.vt_model_json.proofs.DumpLoads.Lists.{Contains-insert_key_here}
 use Rattle.vt_model_json.proofs.DumpLoads.Names.{same_object_of_number, class-live, feature-reference}
 use Rattle.vt_model_json.proofs.DumpLoads.Links.{reference_name}
-use Rattle.vt_model_json.proofs.DumpLoads.Spelled.{among-insert_key, by_key, spelled, put-spelled}
+use Rattle.vt_model_json.proofs.DumpLoads.Spelled.{among-insert_key, by_key, by_key_total, spelled, put-spelled}
 
 -- what stands under the key of a reference
 abbrev pub data_of_reference : Model → List Link → ℕ → Data
@@ -151,6 +153,16 @@ module _ (meta : Metamodel) (sound : IsSound meta) (g : Model) (valid : IsValid 
 
   pub link_members-spelled : link_members g own_links no_members 0 meta.references ≡ spelled key shown (references_by_key meta g o)
   link_members-spelled = link_members-from [] 0 meta.references (λ k. let same : 0 + k ≡ k = omega arith in ap (slice_get meta.references) same) (λ s there. absurd (Contains-nil s there))
+
+  -- they rise
+  with_reference-rise : (names : List (List ℕ)) (rs : List ℕ) (r : ℕ) → IsStrictlySortedBy (by_key key) rs → IsStrictlySortedBy (by_key key) (with_reference meta names rs r)
+  with_reference-rise [] rs r rise = rise
+  with_reference-rise (t ∷ ts) rs r rise = IsStrictlySortedBy-insert_key (by_key key) (by_key_total key) rs r rise
+
+  pub references_from-rise : (rs : List ℕ) (r : ℕ) (infos : List RefInfo) → IsStrictlySortedBy (by_key key) rs → IsStrictlySortedBy (by_key key) (references_from meta g own_links rs r infos)
+  references_from-rise rs r [] rise = rise
+  references_from-rise rs r (info ∷ infos) rise =
+      references_from-rise (with_reference meta (target_names g r own_links) rs r) (r + 1) infos (with_reference-rise (target_names g r own_links) rs r rise)
 
   -- ---- each link's reference is among them
 

@@ -92,7 +92,7 @@ object_shape-members attributes links class name n entries targets form are lead
 
 module _ (meta : Metamodel) (sound : IsSound meta) (g : Model) (valid : IsValid meta g) (writable : IsWritable g) where
   -- each target's name has the form of a name
-  target-form : (o : Object) (r : ℕ) (name : List ℕ) → Contains (target_names g r (links_of g o.number)) name → is_name continues_object_name name ≡ true
+  pub target-form : (o : Object) (r : ℕ) (name : List ℕ) → Contains (target_names g r (links_of g o.number)) name → is_name continues_object_name name ≡ true
   target-form o r name there =
       let from = Contains-map_cases (λ (x : Link). name_of g x.target) (filter (λ link. link.reference.0 == r) (links_of g o.number)) name there in
       let own = Contains-from_filter (λ link. link.reference.0 == r) (links_of g o.number) from.0 from.1 in
