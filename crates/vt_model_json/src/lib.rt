@@ -13,6 +13,7 @@ mod place;
 mod store;
 // The text of a model.
 mod dump;
+// What holds of the dump of every valid model.
 mod laws;
 
 // A document, and the model that it makes.
@@ -21,6 +22,7 @@ pub use loading::{ModelFault, read_model};
 pub use store::ListStore;
 // The text of a model.
 pub use dump::write_model;
+// What holds of the dump of every valid model.
 pub use laws::dump_loads_back;
 
 #[cfg(test)]

@@ -1,13 +1,12 @@
 -- The attributes of an object: members of its data, and the values that they set.
-use Rattle.std.proofs.Common.{◌≡◌, ℕ, List, [], ◌∷◌, map, refl, sym, ap, subst, ◌∙◌, arith, Bool, true, false, ◌⊎◌, inl, inr}
-use Rattle.std.specs.Prelude.{◌==◌, Contains, filter, slice_get, Option, Some, None, option_map, unwrap_or}
+use Rattle.std.proofs.Common.{◌≡◌, ℕ, List, [], ◌∷◌, refl, sym, ap, subst, ◌∙◌, true, inl, inr}
+use Rattle.std.specs.Prelude.{◌==◌, Contains, Option, Some, option_map, unwrap_or}
 use Rattle.std.specs.BTreeSet.{insert_key}
 use Rattle.std.specs.declared.cmp.Ordering.TheVariants.{Equal}
-use Rattle.std.proofs.lemmas.Bool.{eqb-true, eq-eqb}
+use Rattle.std.proofs.lemmas.Bool.{eqb-true}
 use Rattle.std.proofs.lemmas.List.Elements.{All-contains}
 use Rattle.std.proofs.lemmas.Map.Lookups.{exact_bytes}
 use Rattle.serde_json.specs.Data.{Data, no_members}
-use Rattle.vt_base.specs.declared.numbers.AttrId.{AttrId}
 use Rattle.vt_meta.specs.Metamodel.{Metamodel, isa, feature}
 use Rattle.vt_meta.specs.Model.{Model}
 use Rattle.vt_meta.specs.Assigning.{value_order}
@@ -19,7 +18,7 @@ use Rattle.vt_meta.specs.declared.metamodel.Feature.{Feature}
 use Rattle.vt_meta.specs.declared.metamodel.Feature.TheVariants.{Attr}
 use Rattle.vt_meta.specs.declared.model.Object.{Object}
 use Rattle.vt_meta.specs.declared.model.AttributeValue.{AttributeValue}
-use Rattle.vt_meta.proofs.MemberLemmas.{Contains-head, Contains-behind, Contains-nil, Contains-filter, Contains-from_filter}
+use Rattle.vt_meta.proofs.MemberLemmas.{Contains-head, Contains-behind, Contains-nil, Contains-from_filter}
 use Rattle.vt_meta.proofs.Valid.Containment.{same_object}
 use Rattle.vt_model_json.specs.Dump.{attribute_name, value_data, attribute_members, values_of}
 use Rattle.vt_model_json.proofs.DumpLoads.Lists.{same_if_equal}

@@ -1,10 +1,8 @@
 -- The changes of the document of a valid model make the model anew.
-use Rattle.std.proofs.Common.{◌≡◌, ℕ, ◌+◌, List, [], ◌∷◌, ◌++◌, map, refl, sym, ap, subst, ◌∙◌, arith, Bool, true, false, ◌⊎◌, inl, inr}
-use Rattle.std.specs.Prelude.{◌≤◌, ◌==◌, filter, flat_map, All, Contains, count_by, IsSome, Ok}
+use Rattle.std.proofs.Common.{◌≡◌, ℕ, ◌+◌, List, [], ◌∷◌, ◌++◌, map, refl, sym, ap, subst, ◌∙◌, arith, true, ◌⊎◌, inl, inr}
+use Rattle.std.specs.Prelude.{◌==◌, filter, flat_map, Contains, Ok}
 use Rattle.std.specs.Cmp.{IsTotalOrder}
-use Rattle.std.specs.Ordering.{nat_cmp}
 use Rattle.std.proofs.lemmas.Bool.{eqb-true, eq-eqb}
-use Rattle.std.proofs.lemmas.Bool.Decides.{nat_tests}
 use Rattle.std.proofs.lemmas.Cmp.{then_total, on_total, nat_cmp_total}
 use Rattle.std.proofs.lemmas.List.Elements.{All-nil, All-contains}
 use Rattle.vt_meta.specs.Metamodel.{Metamodel}
@@ -23,13 +21,12 @@ use Rattle.vt_meta.specs.declared.change.Change.TheVariants as change
 use Rattle.vt_meta.proofs.MemberLemmas.{Contains-nil, Contains-filter, Contains-from_filter}
 use Rattle.vt_meta.proofs.Valid.{IsValid-effect}
 use Rattle.vt_meta.proofs.Valid.Empty.{IsValid-empty_model}
-use Rattle.vt_meta.proofs.Valid.Containment.{same_object}
 use Rattle.vt_model_json.specs.Loading.{creations, assignment, assignments, linkings, changes_of}
 use Rattle.vt_model_json.specs.Dump.{name_of, links_of, target_names}
 use Rattle.vt_model_json.proofs.DumpLoads.Made.{Makes, Makes-append, changes_from-Makes}
-use Rattle.vt_model_json.proofs.DumpLoads.Lists.{map_same, map_map_same, flat_map_same, flat_map_map, Contains-flat_map, Contains-flat_map_cases, some_counted, same_members}
+use Rattle.vt_model_json.proofs.DumpLoads.Lists.{map_map_same, flat_map_same, flat_map_map, Contains-flat_map, Contains-flat_map_cases, some_counted, same_members}
 use Rattle.vt_model_json.proofs.DumpLoads.Names.{name_of-live}
-use Rattle.vt_model_json.proofs.DumpLoads.Links.{reference_name, linking, HasSomeLinks, LinksMade, make_links}
+use Rattle.vt_model_json.proofs.DumpLoads.Links.{reference_name, linking, LinksMade, make_links}
 use Rattle.vt_model_json.proofs.DumpLoads.Given.{given_of, HasLiteralNames}
 use Rattle.vt_model_json.proofs.DumpLoads.Values.{value_order_total, is_value_of-same, is_value_of-parts, setting, ValuesMade, make_values}
 use Rattle.vt_model_json.proofs.DumpLoads.Objects.{HasClassNames, creation, HasDefault, ObjectsMade, make_objects}
@@ -196,7 +193,7 @@ module _ (meta : Metamodel) (sound : IsSound meta) (classes : HasClassNames meta
     linked_up.after,
     ap (transaction meta empty_model) (changes-live meta sound g valid)
         ∙ changes_from-Makes meta 0 empty_model linked_up.after (map (creation meta) g.live ++ map (setting meta g) values ++ map (linking meta g) links)
-            (Makes-append meta empty_model assigned.after linked_up.after (map (creation meta) g.live ++ map (setting meta g) values) (map (linking meta g) links) made_so_far linked_up.made),
+        (Makes-append meta empty_model assigned.after linked_up.after (map (creation meta) g.live ++ map (setting meta g) values) (map (linking meta g) links) made_so_far linked_up.made),
     linked_up.has.live,
     linked_up.has.gone,
     linked_up.has.values,

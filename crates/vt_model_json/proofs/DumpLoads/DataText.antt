@@ -1,6 +1,6 @@
 -- The data of a valid model that can be written is read back from its text.
-use Rattle.std.proofs.Common.{◌≡◌, ℕ, zero, suc, List, [], ◌∷◌, codes, refl, sym, subst, arith, Bool, true, false, IsUtf8}
-use Rattle.std.specs.Prelude.{◌<◌, ◌≤◌, ◌^◌, pos, negsuc, max, All, Contains, slice_get, Option, Some, None, option_map, option_and_then, unwrap_or}
+use Rattle.std.proofs.Common.{◌≡◌, ℕ, zero, suc, List, [], ◌∷◌, codes, refl, sym, subst, arith, true, IsUtf8}
+use Rattle.std.specs.Prelude.{◌<◌, ◌≤◌, ◌^◌, pos, negsuc, All, Contains, slice_get, Option, Some, None, option_map, option_and_then, unwrap_or}
 use Rattle.std.specs.List.{AllByRecursion}
 use Rattle.std.specs.List.Sorted.{IsStrictlySortedBy}
 use Rattle.std.specs.Cmp.Lexicographic.{slice_cmp}
@@ -10,8 +10,7 @@ use Rattle.std.specs.declared.cmp.Ordering.TheVariants.{Less}
 use Rattle.std.proofs.lemmas.List.Elements.{All-contains, All-head, All-tail}
 use Rattle.std.proofs.lemmas.Str.{IsUtf8-nil}
 use Rattle.json.proofs.Printed.Utf8.{IsUtf8-are_ascii}
-use Rattle.serde_json.specs.Data.{Data, unsigned, string, array, object, Items, Members, no_members, depth, items_depth, members_depth}
-use Rattle.serde_json.specs.Find.{of_integer}
+use Rattle.serde_json.specs.Data.{Data, object, no_members, depth, items_depth, members_depth}
 use Rattle.vt_base.specs.declared.numbers.ClassId.{ClassId}
 use Rattle.vt_base.specs.declared.numbers.AttrId.{AttrId}
 use Rattle.vt_base.specs.declared.value.Value.{Value}
@@ -26,7 +25,6 @@ use Rattle.vt_meta.specs.declared.metamodel.ClassInfo.{ClassInfo}
 use Rattle.vt_meta.specs.declared.metamodel.AttrInfo.{AttrInfo}
 use Rattle.vt_meta.specs.declared.metamodel.RefInfo.{RefInfo}
 use Rattle.vt_meta.specs.declared.model.Object.{Object}
-use Rattle.vt_meta.specs.declared.model.AttributeValue.{AttributeValue}
 use Rattle.vt_meta.proofs.MemberLemmas.{Contains-head, Contains-behind}
 use Rattle.vt_model_json.specs.Dump.{class_name, attribute_name, literal_name, value_data, attribute_members, values_of, links_of, target_names, texts, link_members, object_data, objects_data, model_data}
 use Rattle.vt_model_json.specs.Writable.{IsWritableValue, IsWritable}
@@ -35,7 +33,7 @@ use Rattle.vt_model_json.proofs.DumpLoads.Spelled.{by_key, by_key_total, spelled
 use Rattle.vt_model_json.proofs.DumpLoads.Attributes.{value_key, data_of_value, values_by_key, own-values, attribute_members-spelled, from-values_by_key}
 use Rattle.vt_model_json.proofs.DumpLoads.References.{data_of_reference, references_by_key, link_members-spelled, references_from-rise}
 use Rattle.vt_model_json.proofs.DumpLoads.Shape.{target-form}
-use Rattle.vt_model_json.proofs.DumpLoads.ReadBack.{IsReadableNumber, KeysRise, IsReadable, AreReadable, MembersAreReadable}
+use Rattle.vt_model_json.proofs.DumpLoads.ReadBack.{KeysRise, IsReadable, AreReadable, MembersAreReadable}
 use Rattle.vt_model_json.proofs.DumpLoads.PlainNames.{below-object_name, IsUtf8-is_name}
 use Rattle.vt_model_json.proofs.DumpLoads.MetaNames.{IsNamed}
 
@@ -171,13 +169,26 @@ module _ (meta : Metamodel) (named : IsNamed meta) (g : Model) (valid : IsValid 
     IsReadable-object_data =
         let below : o.number.0 < g.next = All-contains (λ p. p.number.0 < g.next) g.live o valid.numbers_below live in
         let form = All-contains (λ o. is_name continues_object_name o.name ≡ true) g.live o writable.names live in
-        let fits : o.number.0 < 2 ^ 64 = omega (arith, below, valid.next_in_range) in
-        (keys-rise,
-        (IsUtf8-are_ascii (codes "attributes") refl, attributes-readable,
-        (IsUtf8-are_ascii (codes "class") refl, class_name-utf8 meta named o.class,
-        (IsUtf8-are_ascii (codes "links") refl, links-readable,
-        (IsUtf8-are_ascii (codes "name") refl, IsUtf8-is_name continues_object_name below-object_name o.name form,
-        (IsUtf8-are_ascii (codes "number") refl, fits, tt))))))
+        let fits : o.number.0 < 2 ^ 64 = omega (arith, below, valid.next_in_range) in (
+          keys-rise,
+          (
+            IsUtf8-are_ascii (codes "attributes") refl,
+            attributes-readable,
+            (
+              IsUtf8-are_ascii (codes "class") refl,
+              class_name-utf8 meta named o.class,
+              (
+                IsUtf8-are_ascii (codes "links") refl,
+                links-readable,
+                (
+                  IsUtf8-are_ascii (codes "name") refl,
+                  IsUtf8-is_name continues_object_name below-object_name o.name form,
+                  (IsUtf8-are_ascii (codes "number") refl, fits, tt),
+                ),
+              ),
+            ),
+          ),
+        )
 
     depth-object_data : depth (object_data meta g o) ≤ 3
     depth-object_data =
@@ -213,11 +224,18 @@ module _ (meta : Metamodel) (named : IsNamed meta) (g : Model) (valid : IsValid 
   unfolding model_data
   IsReadable-model_data =
       let one : 1 < 2 ^ 64 = omega arith in
-      let next : g.next < 2 ^ 64 = omega (arith, valid.next_in_range) in
-      (top_keys-rise,
-      (IsUtf8-are_ascii (codes "format") refl, one,
-      (IsUtf8-are_ascii (codes "next") refl, next,
-      (IsUtf8-are_ascii (codes "objects") refl, AreReadable-objects_data g.live (λ o there. there), tt))))
+      let next : g.next < 2 ^ 64 = omega (arith, valid.next_in_range) in (
+        top_keys-rise,
+        (
+          IsUtf8-are_ascii (codes "format") refl,
+          one,
+          (
+            IsUtf8-are_ascii (codes "next") refl,
+            next,
+            (IsUtf8-are_ascii (codes "objects") refl, AreReadable-objects_data g.live (λ o there. there), tt),
+          ),
+        ),
+      )
 
   pub depth-model_data : depth (model_data meta g) ≤ 127
   unfolding model_data

@@ -1,6 +1,6 @@
 -- A value, as its text gives it to the attribute that has it.
-use Rattle.std.proofs.Common.{◌≡◌, ℕ, List, [], length, refl, ap, subst, sym, ◌∙◌, arith, Bool, true, false}
-use Rattle.std.specs.Prelude.{◌<◌, nat_lt, position, slice_get, Option, Some, None, option_map, option_and_then, unwrap_or}
+use Rattle.std.proofs.Common.{◌≡◌, ℕ, [], length, refl, ap, subst, sym, ◌∙◌, true, false}
+use Rattle.std.specs.Prelude.{nat_lt, position, slice_get, Option, Some, None, option_map, option_and_then, unwrap_or}
 use Rattle.std.specs.Option.{option_map_or}
 use Rattle.std.proofs.lemmas.Bool.{ltb-true}
 use Rattle.vt_base.specs.declared.value.Value.{Value}

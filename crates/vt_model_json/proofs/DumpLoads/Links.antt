@@ -1,6 +1,6 @@
 -- The links of a valid model are made one after the other, in any order.
 use Rattle.std.proofs.Common.{◌≡◌, ℕ, List, [], ◌∷◌, map, refl, sym, ap, subst, ◌∙◌, Bool, true, false, not, ◌⊎◌, inl, inr}
-use Rattle.std.specs.Prelude.{◌&&◌, ◌==◌, find, filter, slice_get, Contains, Option, Some, None, Ok, option_map, unwrap_or, if◌then◌else◌}
+use Rattle.std.specs.Prelude.{◌&&◌, ◌==◌, find, filter, slice_get, Contains, Some, Ok, option_map, unwrap_or, if◌then◌else◌}
 use Rattle.std.specs.List.{list_any}
 use Rattle.std.specs.Option.{option_map_or}
 use Rattle.std.proofs.lemmas.Bool.{and_parts, and_right, eqb-true, not_from_false}
@@ -9,10 +9,10 @@ use Rattle.std.proofs.lemmas.List.Folds.{Any-from_list_any}
 use Rattle.vt_meta.specs.Metamodel.{Metamodel, isa, feature}
 use Rattle.vt_meta.specs.Declarations.{is_name}
 use Rattle.vt_meta.specs.Model.{Model, object_named}
-use Rattle.vt_meta.specs.Linking.{is_target, is_link, stands, link_back, oriented, is_dropped, relinked, linked}
+use Rattle.vt_meta.specs.Linking.{is_target, is_link, stands, oriented, is_dropped, relinked, linked}
 use Rattle.vt_meta.specs.Containing.{is_circular, closes_cycle}
 use Rattle.vt_meta.specs.Effect.{first_of, unless_refused, effect}
-use Rattle.vt_meta.specs.Fits.{FitsReference, IsLiveOf}
+use Rattle.vt_meta.specs.Fits.{FitsReference}
 use Rattle.vt_meta.specs.Sound.{IsSound}
 use Rattle.vt_meta.specs.Valid.{IsValid, HasItsOpposite}
 use Rattle.vt_meta.specs.declared.metamodel.RefInfo.{RefInfo}

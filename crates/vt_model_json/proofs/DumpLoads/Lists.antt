@@ -1,6 +1,6 @@
 -- Lists that rise, and lists in which one item at most passes a test.
 use Rattle.std.proofs.Common.{◌≡◌, ◌+◌, List, [], ◌∷◌, ◌++◌, map, refl, sym, ap, subst, ◌∙◌, cond, arith, Bool, true, false, ◌⊎◌, inl, inr}
-use Rattle.std.specs.Prelude.{◌≤◌, ◌&&◌, All, Contains, count_by, filter, flat_map}
+use Rattle.std.specs.Prelude.{◌≤◌, ◌&&◌, Contains, count_by, filter, flat_map}
 use Rattle.std.specs.List.Sorted.{IsStrictlySortedBy}
 use Rattle.std.specs.BTreeSet.{insert_key}
 use Rattle.std.specs.Cmp.{IsTotalOrder}

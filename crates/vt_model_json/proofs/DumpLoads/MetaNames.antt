@@ -1,10 +1,9 @@
 -- The names of a metamodel that is read find what they name, and are text.
-use Rattle.std.proofs.Common.{◌≡◌, ℕ, ◌+◌, List, [], ◌∷◌, ◌++◌, length, map, refl, sym, ap, subst, ◌∙◌, arith, Bool, true, false, IsUtf8}
-use Rattle.std.specs.Prelude.{◌||◌, not, All, position, slice_get, Option, Some, None, Ok, option_map}
+use Rattle.std.proofs.Common.{◌≡◌, ℕ, ◌+◌, List, [], ◌∷◌, length, refl, ap, subst, ◌∙◌, true, IsUtf8}
+use Rattle.std.specs.Prelude.{not, All, Option, Some, None, Ok, option_map}
 use Rattle.std.proofs.lemmas.Bool.{or_parts, not-false}
 use Rattle.std.proofs.lemmas.List.Elements.{All-nil, All-append, All-head, All-tail, All-map, All-weaker}
 use Rattle.serde_json.specs.Data.{Data}
-use Rattle.vt_base.specs.declared.numbers.ClassId.{ClassId}
 use Rattle.vt_json.specs.Json.{json_of}
 use Rattle.vt_meta.specs.Metamodel.{Metamodel, class_named}
 use Rattle.vt_meta.specs.Document.{document_shape}
@@ -13,7 +12,6 @@ use Rattle.vt_meta.specs.Built.{Declared, declared_by, attributes_from, referenc
 use Rattle.vt_meta.specs.Faults.{Fault, duplicate_name, first_of, is_taken, is_bad_enum, is_bad_class, first_place, or_else, duplicate_place, first_fault}
 use Rattle.vt_meta.specs.Reading.{unless_faulty, judged, shaped, meta_of}
 use Rattle.vt_meta.specs.Sound.{IsSound}
-use Rattle.vt_meta.specs.declared.document.EnumDocument.{EnumDocument}
 use Rattle.vt_meta.specs.declared.document.ClassDocument.{ClassDocument}
 use Rattle.vt_meta.specs.declared.document.AttributeDocument.{AttributeDocument}
 use Rattle.vt_meta.specs.declared.document.ReferenceDocument.{ReferenceDocument}
@@ -26,11 +24,11 @@ use Rattle.vt_meta.proofs.PositionLemmas.{position-map}
 use Rattle.vt_meta.proofs.Sound.{IsSound-metamodel_of}
 use Rattle.vt_meta.proofs.Sound.Shapes.{HasLiterals-document_shape}
 use Rattle.vt_meta.proofs.Sound.Places.{slice_get-from_map, first_place-at}
-use Rattle.vt_meta.proofs.Sound.Faultless.{IsFaultless, IsFaultless-first_fault}
+use Rattle.vt_meta.proofs.Sound.Faultless.{IsFaultless-first_fault}
 use Rattle.vt_meta.proofs.Sound.Answered.{class_place-itself}
 use Rattle.vt_model_json.proofs.DumpLoads.Given.{HasLiteralNames}
 use Rattle.vt_model_json.proofs.DumpLoads.Objects.{HasClassNames}
-use Rattle.vt_model_json.proofs.DumpLoads.MetaShapes.{IsNamedClass, IsNamedDocument, IsNamedDocument-document_shape}
+use Rattle.vt_model_json.proofs.DumpLoads.MetaShapes.{IsNamedClass, IsNamedDocument-document_shape}
 
 -- what the dump needs of a metamodel
 pub record IsNamed (meta : Metamodel) : Type 0 where

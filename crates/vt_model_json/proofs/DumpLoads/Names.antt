@@ -1,22 +1,19 @@
 -- What names find in a valid model, and in the classes of a sound metamodel.
-use Rattle.std.proofs.Common.{◌≡◌, ℕ, ◌+◌, List, [], ◌∷◌, ◌++◌, length, map, refl, sym, ap, subst, ◌∙◌, arith, Bool, true, false}
-use Rattle.std.specs.Prelude.{◌<◌, ◌≤◌, ◌&&◌, ◌==◌, filter, find, position, Contains, count_by, slice_get, IsSomeAnd, Option, Some, None, option_map, unwrap_or}
+use Rattle.std.proofs.Common.{◌≡◌, ℕ, ◌+◌, List, [], ◌++◌, length, map, refl, ap, ◌∙◌, arith, Bool, true, false}
+use Rattle.std.specs.Prelude.{◌<◌, ◌≤◌, ◌==◌, filter, position, Contains, count_by, slice_get, IsSomeAnd, Option, Some, None, option_map, unwrap_or}
 use Rattle.std.specs.Cmp.{IsTotalOrder}
-use Rattle.std.specs.Ordering.{nat_cmp}
 use Rattle.std.specs.declared.cmp.Ordering.TheVariants.{Equal}
 use Rattle.std.proofs.lemmas.Bool.{and_from, eq-eqb, eqb-true}
 use Rattle.std.proofs.lemmas.Bool.Decides.{nat_tests}
 use Rattle.std.proofs.lemmas.Cmp.{on_total, nat_cmp_total}
 use Rattle.std.proofs.lemmas.Option.{slice_get_within}
 use Rattle.std.proofs.lemmas.List.Elements.{All-contains}
-use Rattle.vt_base.specs.declared.numbers.ObjId.{ObjId}
 use Rattle.vt_base.specs.declared.numbers.ClassId.{ClassId}
 use Rattle.vt_base.specs.declared.numbers.AttrId.{AttrId}
 use Rattle.vt_base.specs.declared.numbers.RefId.{RefId}
 use Rattle.vt_meta.specs.Metamodel.{Metamodel, isa, feature_names, is_attribute_of, is_reference_of, or_reference, feature}
-use Rattle.vt_meta.specs.Declarations.{is_name, is_distinct}
+use Rattle.vt_meta.specs.Declarations.{is_name}
 use Rattle.vt_meta.specs.Model.{Model, object_named}
-use Rattle.vt_meta.specs.Fits.{IsLive}
 use Rattle.vt_meta.specs.Sound.{IsSound}
 use Rattle.vt_meta.specs.Valid.{IsValid, IsConcrete, object_order}
 use Rattle.vt_meta.specs.declared.metamodel.ClassInfo.{ClassInfo}
@@ -24,11 +21,10 @@ use Rattle.vt_meta.specs.declared.metamodel.AttrInfo.{AttrInfo}
 use Rattle.vt_meta.specs.declared.metamodel.RefInfo.{RefInfo}
 use Rattle.vt_meta.specs.declared.metamodel.Feature.TheVariants.{Attr, Ref}
 use Rattle.vt_meta.specs.declared.model.Object.{Object}
-use Rattle.vt_meta.specs.declared.model.GoneObject.{GoneObject}
 use Rattle.vt_meta.proofs.MemberLemmas.{Contains-find, find-some}
 use Rattle.vt_meta.proofs.Valid.Counts.{count_by-append, count_by-map}
 use Rattle.vt_meta.proofs.Valid.Found.{IsAt-position}
-use Rattle.vt_meta.proofs.Valid.Names.{times, times-is_distinct, times-objects, is_name-itself}
+use Rattle.vt_meta.proofs.Valid.Names.{times-is_distinct, times-objects, is_name-itself}
 use Rattle.vt_meta.proofs.Sound.Places.{count_by-at, position-only}
 use Rattle.vt_model_json.specs.Dump.{name_of}
 use Rattle.vt_model_json.proofs.DumpLoads.Lists.{only_one, count_by-filtered, same_if_equal}

@@ -1,14 +1,13 @@
 -- The objects of a valid model are created one after the other, in rising order of number.
-use Rattle.std.proofs.Common.{◌≡◌, ℕ, ◌+◌, List, [], ◌∷◌, ◌++◌, map, refl, sym, ap, subst, ◌∙◌, append_assoc, append-nil, arith, Bool, true, false, ◌⊎◌, inl, inr}
+use Rattle.std.proofs.Common.{◌≡◌, ℕ, ◌+◌, List, [], ◌∷◌, ◌++◌, map, refl, sym, ap, subst, ◌∙◌, append_assoc, append-nil, arith, true, false}
 use Rattle.std.specs.Prelude.{◌<◌, ◌≤◌, ◌||◌, max, find, slice_get, nat_le, All, Contains, IsSome, IsSomeAnd, is_some, Option, Some, None, Ok, option_map, unwrap_or}
 use Rattle.std.specs.Option.{option_map_or}
 use Rattle.std.specs.List.Sorted.{IsStrictlySortedBy}
 use Rattle.std.specs.declared.cmp.Ordering.TheVariants.{Less}
 use Rattle.std.proofs.lemmas.Bool.Decides.{nat_tests}
-use Rattle.std.proofs.lemmas.List.Elements.{All-nil, All-append, All-contains, Contains-append_left, Contains-append_right, Contains-push}
+use Rattle.std.proofs.lemmas.List.Elements.{All-append, All-contains, Contains-append_left, Contains-append_right}
 use Rattle.std.proofs.lemmas.Map.Keys.{sorted_tail}
 use Rattle.vt_base.specs.declared.numbers.ClassId.{ClassId}
-use Rattle.vt_base.specs.declared.numbers.ObjId.{ObjId}
 use Rattle.vt_base.specs.declared.value.Value.{Value}
 use Rattle.vt_meta.specs.Metamodel.{Metamodel, isa, class_named}
 use Rattle.vt_meta.specs.Declarations.{is_name}
@@ -25,7 +24,7 @@ use Rattle.vt_meta.specs.declared.model.GoneObject.{GoneObject}
 use Rattle.vt_meta.specs.declared.model.AttributeValue.{AttributeValue}
 use Rattle.vt_meta.specs.declared.change.Change.{Change}
 use Rattle.vt_meta.specs.declared.change.Change.TheVariants.{Create}
-use Rattle.vt_meta.proofs.MemberLemmas.{Contains-head, Contains-behind, Contains-find}
+use Rattle.vt_meta.proofs.MemberLemmas.{Contains-head, Contains-find}
 use Rattle.vt_meta.proofs.Valid.{IsValid-effect}
 use Rattle.vt_meta.proofs.Valid.Defaults.{All-defaults_from}
 use Rattle.vt_meta.proofs.Valid.Names.{same_name}

@@ -1,6 +1,6 @@
 -- The references of an object that have targets: members of its data.
-use Rattle.std.proofs.Common.{◌≡◌, ℕ, zero, suc, ◌+◌, List, [], ◌∷◌, length, map, refl, sym, ap, subst, ◌∙◌, arith, Bool, true, false, ◌⊎◌, inl, inr}
-use Rattle.std.specs.Prelude.{◌==◌, ◌<◌, Contains, filter, slice_get, Option, Some, None, option_map, unwrap_or}
+use Rattle.std.proofs.Common.{◌≡◌, ℕ, zero, suc, ◌+◌, List, [], ◌∷◌, length, map, refl, sym, ap, subst, ◌∙◌, arith, true}
+use Rattle.std.specs.Prelude.{◌==◌, ◌<◌, Contains, filter, slice_get, Option, Some, option_map, unwrap_or}
 use Rattle.std.specs.List.Sorted.{IsStrictlySortedBy}
 use Rattle.std.specs.BTreeSet.{insert_key}
 use Rattle.std.specs.declared.cmp.Ordering.TheVariants.{Equal}
@@ -9,7 +9,6 @@ use Rattle.std.proofs.lemmas.List.Elements.{All-contains}
 use Rattle.std.proofs.lemmas.Map.Lookups.{exact_bytes}
 use Rattle.std.proofs.lemmas.Option.{slice_get_within}
 use Rattle.serde_json.specs.Data.{Data, array, no_members, put}
-use Rattle.vt_base.specs.declared.numbers.RefId.{RefId}
 use Rattle.vt_meta.specs.Metamodel.{Metamodel, isa, feature}
 use Rattle.vt_meta.specs.Model.{Model}
 use Rattle.vt_meta.specs.Fits.{FitsReference}

@@ -1,6 +1,6 @@
 -- The data of a valid model has the shape of a document, and which document it is.
-use Rattle.std.proofs.Common.{◌≡◌, ℕ, ◌+◌, List, [], ◌∷◌, map, codes, refl, sym, ap, subst, ◌∙◌, arith, Bool, true, false}
-use Rattle.std.specs.Prelude.{◌<◌, ◌≤◌, ◌^◌, ◌&&◌, ◌==◌, filter, pos, negsuc, nat_le, nat_lt, All, Contains, Option, Some, None, option_map, option_and_then, unwrap_or, if◌then◌else◌}
+use Rattle.std.proofs.Common.{◌≡◌, ℕ, ◌+◌, List, [], ◌∷◌, map, codes, refl, sym, ap, subst, ◌∙◌, arith, true}
+use Rattle.std.specs.Prelude.{◌<◌, ◌≤◌, ◌^◌, ◌&&◌, ◌==◌, filter, pos, negsuc, nat_le, Contains, Option, Some, None, option_map, option_and_then, if◌then◌else◌}
 use Rattle.std.specs.List.Sorted.{IsStrictlySortedBy}
 use Rattle.std.proofs.lemmas.Bool.{and_from, lt-ltb, le-leb}
 use Rattle.std.proofs.lemmas.List.Elements.{All-contains}
@@ -19,7 +19,7 @@ use Rattle.vt_meta.specs.declared.model.Object.{Object}
 use Rattle.vt_meta.specs.declared.model.AttributeValue.{AttributeValue}
 use Rattle.vt_meta.specs.declared.model.Link.{Link}
 use Rattle.vt_meta.proofs.MemberLemmas.{Contains-head, Contains-behind, Contains-from_filter}
-use Rattle.vt_model_json.specs.ModelDocument.{entry_shape, object_shape, number_at, rise, above_all, with_next, document_shape}
+use Rattle.vt_model_json.specs.ModelDocument.{entry_shape, object_shape, rise, above_all, with_next, document_shape}
 use Rattle.vt_model_json.specs.Dump.{class_name, name_of, value_data, attribute_members, values_of, links_of, target_names, texts, link_members, object_data, objects_data, model_data}
 use Rattle.vt_model_json.specs.Writable.{IsWritableValue, IsWritable}
 use Rattle.vt_model_json.specs.declared.document.Entry.{Entry}
@@ -32,7 +32,7 @@ use Rattle.vt_model_json.proofs.DumpLoads.Given.{given_of}
 use Rattle.vt_model_json.proofs.DumpLoads.Objects.{object_order-Less}
 use Rattle.vt_model_json.proofs.DumpLoads.Spelled.{entries_in-spelled}
 use Rattle.vt_model_json.proofs.DumpLoads.Attributes.{value_key, data_of_value, values_by_key, own-values, attribute_members-spelled, from-values_by_key}
-use Rattle.vt_model_json.proofs.DumpLoads.References.{data_of_reference, references_by_key, own-links, link_members-spelled}
+use Rattle.vt_model_json.proofs.DumpLoads.References.{data_of_reference, references_by_key, link_members-spelled}
 
 -- ---- the document
 

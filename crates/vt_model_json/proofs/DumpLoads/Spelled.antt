@@ -1,6 +1,6 @@
 -- Members of an object that go in one after the other, in any order of key.
 use Rattle.std.proofs.Common.{◌≡◌, ℕ, List, [], ◌∷◌, map, refl, ap, subst, ◌∙◌, ◌⊎◌, inl, inr}
-use Rattle.std.specs.Prelude.{Contains, Option, Some, None, option_map, option_and_then}
+use Rattle.std.specs.Prelude.{Contains, Option, Some, option_map, option_and_then}
 use Rattle.std.specs.List.Sorted.{IsStrictlySortedBy}
 use Rattle.std.specs.BTreeSet.{insert_key}
 use Rattle.std.specs.Cmp.{IsTotalOrder}

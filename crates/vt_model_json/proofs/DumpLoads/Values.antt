@@ -1,9 +1,8 @@
 -- The values of a valid model are set one after the other, in any order.
-use Rattle.std.proofs.Common.{◌≡◌, ℕ, List, [], ◌∷◌, map, refl, sym, ap, subst, ◌∙◌, arith, Bool, true, false, not, ◌⊎◌, inl, inr}
-use Rattle.std.specs.Prelude.{◌≤◌, ◌&&◌, ◌==◌, find, filter, slice_get, Contains, count_by, IsSome, Option, Some, None, Ok, option_map, option_and_then, unwrap_or}
+use Rattle.std.proofs.Common.{◌≡◌, List, [], ◌∷◌, map, refl, sym, ap, subst, ◌∙◌, arith, Bool, true, false, not, ◌⊎◌, inl, inr}
+use Rattle.std.specs.Prelude.{◌==◌, find, filter, Contains, Some, Ok, option_map, unwrap_or}
 use Rattle.std.specs.BTreeSet.{insert_key}
 use Rattle.std.specs.Cmp.{IsTotalOrder}
-use Rattle.std.specs.Ordering.{nat_cmp}
 use Rattle.std.specs.declared.cmp.Ordering.TheVariants.{Equal}
 use Rattle.std.proofs.lemmas.Bool.{and_parts, eqb-true, both_ways, not-true, not_from_false}
 use Rattle.std.proofs.lemmas.Bool.Decides.{nat_tests}
@@ -11,8 +10,7 @@ use Rattle.std.proofs.lemmas.Cmp.{then_total, on_total, nat_cmp_total}
 use Rattle.std.proofs.lemmas.List.Elements.{All-contains}
 use Rattle.vt_base.specs.declared.numbers.ObjId.{ObjId}
 use Rattle.vt_base.specs.declared.numbers.AttrId.{AttrId}
-use Rattle.vt_base.specs.declared.value.Value.{Value}
-use Rattle.vt_meta.specs.Metamodel.{Metamodel, isa, feature}
+use Rattle.vt_meta.specs.Metamodel.{Metamodel, feature}
 use Rattle.vt_meta.specs.Declarations.{is_name}
 use Rattle.vt_meta.specs.Model.{Model, object_named}
 use Rattle.vt_meta.specs.Assigning.{kind_asked, value_order, is_value_of, with_value}
