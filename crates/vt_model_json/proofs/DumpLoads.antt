@@ -12,6 +12,7 @@ pub mod Attributes
 pub mod References
 pub mod Shape
 pub mod Changes
+pub mod Readable
 pub mod ReadBack
 pub mod PlainNames
 pub mod MetaShapes

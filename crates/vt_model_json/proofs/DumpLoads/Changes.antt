@@ -87,15 +87,19 @@ module _ (meta : Metamodel) (sound : IsSound meta) (g : Model) (valid : IsValid 
   abbrev all_values : List AttributeValue
   all_values = flat_map (values_by_key meta g) g.live
 
+  -- all links, by object and key
   abbrev all_links : List Link
   all_links = flat_map (links_by_key meta g) g.live
 
+  -- what the document sets are these values
   all_assignments : flat_map assignments (map (document_of meta g) g.live) ≡ map (setting meta g) all_values
   all_assignments = flat_map_map assignments (document_of meta g) g.live ∙ flat_map_same (λ o. assignments (document_of meta g o)) (setting meta g) (values_by_key meta g) g.live assignments-live
 
+  -- and what it links are these links
   all_linkings : flat_map linkings (map (document_of meta g) g.live) ≡ map (linking meta g) all_links
   all_linkings = flat_map_map linkings (document_of meta g) g.live ∙ flat_map_same (λ o. linkings (document_of meta g o)) (linking meta g) (links_by_key meta g) g.live linkings-live
 
+  -- so its changes are the creations, the settings and the linkings
   changes-live : changes_of (whole_document meta g) ≡ map (creation meta) g.live ++ map (setting meta g) all_values ++ map (linking meta g) all_links
   changes-live =
       ap (λ cs. cs ++ flat_map assignments (map (document_of meta g) g.live) ++ flat_map linkings (map (document_of meta g) g.live)) (creations-live meta g 0 g.live)
@@ -104,11 +108,13 @@ module _ (meta : Metamodel) (sound : IsSound meta) (g : Model) (valid : IsValid 
 
   -- ---- these are all
 
+  -- each of these values is one of the model
   from-all_values : (t : AttributeValue) → Contains all_values t → Contains g.values t
   from-all_values t there =
       let from = Contains-flat_map_cases (values_by_key meta g) g.live t there in
       (own-values meta sound g valid from.0 from.1 t (from-values_by_key meta sound g valid from.0 from.1 t from.2)).0
 
+  -- and each of the model is one of these
   Contains-all_values : (t : AttributeValue) → Contains g.values t → Contains all_values t
   Contains-all_values t there =
       let owner = (All-contains (FitsAttribute meta g.live) g.values t valid.values_fit there).owner in
@@ -116,12 +122,14 @@ module _ (meta : Metamodel) (sound : IsSound meta) (g : Model) (valid : IsValid 
       Contains-flat_map (values_by_key meta g) g.live o t owner.is_live.there
       (Contains-values_by_key meta sound g valid o owner.is_live.there t (Contains-filter (λ u. u.object.0 == t.object.0) g.values t there (eq-eqb t.object.0 t.object.0 refl)))
 
+  -- each of these links is one of the model
   from-all_links : (x : Link) → Contains all_links x → Contains g.links x
   from-all_links x there =
       let from = Contains-flat_map_cases (links_by_key meta g) g.live x there in
       let through = Contains-flat_map_cases (links_through g from.0) (references_by_key meta g from.0) x from.2 in
       (own-links meta sound g valid from.0 from.1 x (Contains-from_filter (λ link. link.reference.0 == through.0) (links_of g from.0.number) x through.2).0).0
 
+  -- and each of the model is one of these
   Contains-all_links : (x : Link) → Contains g.links x → Contains all_links x
   Contains-all_links x there =
       let source = (All-contains (FitsReference meta g.live) g.links x valid.links_fit there).source in
@@ -138,20 +146,25 @@ module _ (meta : Metamodel) (sound : IsSound meta) (classes : HasClassNames meta
   abbrev values : List AttributeValue
   values = all_values meta sound g valid
 
+  -- the links that are made
   abbrev links : List Link
   links = all_links meta sound g valid
 
+  -- first the objects are created
   objects : ObjectsMade meta g.live g.live empty_model
   objects = make_objects meta sound classes g valid g.live [] refl valid.objects_rise empty_model
       (record { objects = refl; gone = refl; links = refl; valid = IsValid-empty_model meta; defaults = All-nil (HasDefault meta g.live) }) (λ o there. omega arith)
 
+  -- then the values are set
   assigned : ValuesMade meta g values objects.after
   assigned = make_values meta sound literals g valid values (from-all_values meta sound g valid) objects.after
       (record { live = objects.has.objects; gone = objects.has.gone; links = objects.has.links })
 
+  -- so far no change is refused
   made_so_far : Makes meta empty_model (map (creation meta) g.live ++ map (setting meta g) values) assigned.after
   made_so_far = Makes-append meta empty_model objects.after assigned.after (map (creation meta) g.live) (map (setting meta g) values) objects.made assigned.made
 
+  -- and the model is valid
   valid_so_far : IsValid meta assigned.after
   valid_so_far = IsValid-Makes meta empty_model assigned.after (map (creation meta) g.live ++ map (setting meta g) values) sound (IsValid-empty_model meta) made_so_far
 
@@ -169,10 +182,12 @@ module _ (meta : Metamodel) (sound : IsSound meta) (classes : HasClassNames meta
           let parts = is_value_of-parts t.object t.attribute own.0 own.2 in
           absurd (old.1 own.0 (Contains-all_values meta sound g valid own.0 own.1) (is_value_of-same own.0.object own.0.attribute t parts.0 parts.1))
 
+  -- its values are the model's
   same_values : assigned.after.values ≡ g.values
   same_values = same_members value_order value_order_total assigned.after.values g.values valid_so_far.values_rise valid.values_rise
       own-value (λ t there. assigned.new t (Contains-all_values meta sound g valid t there))
 
+  -- at last the links are made
   linked_up : LinksMade meta g links assigned.after
   linked_up = make_links meta sound g valid links (from-all_links meta sound g valid) assigned.after (record {
     live = assigned.has.live;
@@ -182,6 +197,7 @@ module _ (meta : Metamodel) (sound : IsSound meta) (classes : HasClassNames meta
     among = λ x there. absurd (Contains-nil x (subst (λ l. Contains l x) assigned.has.links there));
   })
 
+  -- they are the model's
   same_links : linked_up.after.links ≡ g.links
   same_links = same_members link_order link_order_total linked_up.after.links g.links linked_up.has.valid.links_rise valid.links_rise
       linked_up.has.among (λ x there. linked_up.new x (Contains-all_links meta sound g valid x there))

@@ -33,7 +33,7 @@ use Rattle.vt_model_json.proofs.DumpLoads.Spelled.{by_key, by_key_total, spelled
 use Rattle.vt_model_json.proofs.DumpLoads.Attributes.{value_key, data_of_value, values_by_key, own-values, attribute_members-spelled, from-values_by_key}
 use Rattle.vt_model_json.proofs.DumpLoads.References.{data_of_reference, references_by_key, link_members-spelled, references_from-rise}
 use Rattle.vt_model_json.proofs.DumpLoads.Shape.{target-form}
-use Rattle.vt_model_json.proofs.DumpLoads.ReadBack.{KeysRise, IsReadable, AreReadable, MembersAreReadable}
+use Rattle.vt_model_json.proofs.DumpLoads.Readable.{KeysRise, IsReadable, AreReadable, MembersAreReadable}
 use Rattle.vt_model_json.proofs.DumpLoads.PlainNames.{below-object_name, IsUtf8-is_name}
 use Rattle.vt_model_json.proofs.DumpLoads.MetaNames.{IsNamed}
 
@@ -45,6 +45,7 @@ All-slice_get P [] i x all e = cc
 All-slice_get P (y ∷ xs) zero x all e = let is : y ≡ x = cc in subst P is (All-head P y xs all)
 All-slice_get P (y ∷ xs) (suc i) x all e = All-slice_get P xs i x (All-tail P y xs all) e
 
+-- no items rise
 none-rise : {K : Type 0} (R : K → K → Ordering) → IsStrictlySortedBy R []
 unfolding IsStrictlySortedBy
 none-rise R = tt
@@ -62,12 +63,14 @@ module _ {K : Type 0} (key : K → List ℕ) (shown : K → Data) where
   KeysRise-spelled [] rise = tt
   KeysRise-spelled (x ∷ xs) rise = (below-spelled (key x) xs rise.0, KeysRise-spelled xs rise.1)
 
+  -- where each key and what stands under it can be read, all can
   MembersAreReadable-spelled : (xs : List K) → ((x : K) → Contains xs x → IsUtf8 (key x) × IsReadable (shown x)) → MembersAreReadable (spelled key shown xs)
   MembersAreReadable-spelled [] each = tt
   MembersAreReadable-spelled (x ∷ xs) each =
       let here = each x (Contains-head x xs) in
       (here.0, here.1, MembersAreReadable-spelled xs (λ y there. each y (Contains-behind x y xs there)))
 
+  -- they nest as deep as the deepest
   members_depth-spelled : (m : ℕ) (xs : List K) → ((x : K) → depth (shown x) ≤ m) → members_depth (spelled key shown xs) ≤ m
   members_depth-spelled m [] each = omega arith
   members_depth-spelled m (x ∷ xs) each = omega (arith, each x, members_depth-spelled m xs each)
@@ -75,6 +78,7 @@ module _ {K : Type 0} (key : K → List ℕ) (shown : K → Data) where
 -- ---- names
 
 module _ (meta : Metamodel) (named : IsNamed meta) where
+  -- the name of a class is text
   class_name-utf8 : (c : ClassId) → IsUtf8 (class_name meta c)
   class_name-utf8 c = by (slice_get meta.classes c.0) refl
     where
@@ -82,6 +86,7 @@ module _ (meta : Metamodel) (named : IsNamed meta) where
       by None at = IsUtf8-nil
       by (Some info) at = All-slice_get (λ (i : ClassInfo). IsUtf8 i.name) meta.classes c.0 info named.classes at
 
+  -- so is the name of an attribute
   attribute_name-utf8 : (a : AttrId) → IsUtf8 (attribute_name meta a)
   attribute_name-utf8 a = by (slice_get meta.attributes a.0) refl
     where
@@ -89,6 +94,7 @@ module _ (meta : Metamodel) (named : IsNamed meta) where
       by None at = IsUtf8-nil
       by (Some info) at = All-slice_get (λ (i : AttrInfo). IsUtf8 i.name) meta.attributes a.0 info named.attributes at
 
+  -- of a reference
   reference_name-utf8 : (r : ℕ) → IsUtf8 (reference_name meta r)
   reference_name-utf8 r = by (slice_get meta.references r) refl
     where
@@ -96,6 +102,7 @@ module _ (meta : Metamodel) (named : IsNamed meta) where
       by None at = IsUtf8-nil
       by (Some info) at = All-slice_get (λ (i : RefInfo). IsUtf8 i.name) meta.references r info named.references at
 
+  -- and of a literal
   literal_name-utf8 : (e l : ℕ) → IsUtf8 (literal_name meta e l)
   literal_name-utf8 e l = by (slice_get meta.enums e) refl
     where
@@ -109,6 +116,7 @@ module _ (meta : Metamodel) (named : IsNamed meta) where
 
   -- ---- values
 
+  -- a value that can be written is read back
   IsReadable-value_data : (v : Value) → IsWritableValue v → IsReadable (value_data meta v)
   IsReadable-value_data (value.Bool b) fits = tt
   IsReadable-value_data (value.Int (pos n)) fits = omega (arith, fits)
@@ -117,6 +125,7 @@ module _ (meta : Metamodel) (named : IsNamed meta) where
   IsReadable-value_data (value.Enum e l) fits = literal_name-utf8 e l
   IsReadable-value_data (value.Obj o) fits = tt
 
+  -- it nests nothing
   depth-value_data : (v : Value) → depth (value_data meta v) ≤ 0
   depth-value_data (value.Bool b) = omega arith
   depth-value_data (value.Int n) = omega arith
@@ -126,10 +135,12 @@ module _ (meta : Metamodel) (named : IsNamed meta) where
 
 -- ---- targets
 
+-- names that are text are read back
 AreReadable-texts : (names : List (List ℕ)) → ((n : List ℕ) → Contains names n → IsUtf8 n) → AreReadable (texts names)
 AreReadable-texts [] each = tt
 AreReadable-texts (n ∷ names) each = (each n (Contains-head n names), AreReadable-texts names (λ m there. each m (Contains-behind n m names there)))
 
+-- they nest nothing
 items_depth-texts : (names : List (List ℕ)) → items_depth (texts names) ≤ 0
 items_depth-texts [] = omega arith
 items_depth-texts (n ∷ names) = omega (arith, items_depth-texts names)
@@ -138,6 +149,7 @@ module _ (meta : Metamodel) (named : IsNamed meta) (g : Model) (valid : IsValid 
   -- ---- an object
 
   module _ (o : Object) (live : Contains g.live o) where
+    -- its attributes are read back
     attributes-readable : IsReadable (object (attribute_members meta no_members (values_of g o.number)))
     attributes-readable = subst (λ ms. IsReadable (object ms)) (sym (attribute_members-spelled meta named.sound g valid o live)) (
       KeysRise-spelled (value_key meta) (data_of_value meta) (values_by_key meta g o)
@@ -149,6 +161,7 @@ module _ (meta : Metamodel) (named : IsNamed meta) (g : Model) (valid : IsValid 
       )),
     )
 
+    -- and so are its links
     links-readable : IsReadable (object (link_members g (links_of g o.number) no_members 0 meta.references))
     links-readable = subst (λ ms. IsReadable (object ms)) (sym (link_members-spelled meta named.sound g valid o live)) (
       KeysRise-spelled (reference_name meta) (data_of_reference g (links_of g o.number)) (references_by_key meta g o)
@@ -165,6 +178,7 @@ module _ (meta : Metamodel) (named : IsNamed meta) (g : Model) (valid : IsValid 
     unfolding IsStrictlySortedBy
     keys-rise = ((refl, (refl, (refl, (refl, tt)))), ((refl, (refl, (refl, tt))), ((refl, (refl, tt)), ((refl, tt), (tt, tt)))))
 
+    -- and so is the whole object
     IsReadable-object_data : IsReadable (object_data meta g o)
     IsReadable-object_data =
         let below : o.number.0 < g.next = All-contains (λ p. p.number.0 < g.next) g.live o valid.numbers_below live in
@@ -190,6 +204,7 @@ module _ (meta : Metamodel) (named : IsNamed meta) (g : Model) (valid : IsValid 
           ),
         )
 
+    -- it nests three deep at most
     depth-object_data : depth (object_data meta g o) ≤ 3
     depth-object_data =
         let attributes : members_depth (attribute_members meta no_members (values_of g o.number)) ≤ 0 =
@@ -203,10 +218,12 @@ module _ (meta : Metamodel) (named : IsNamed meta) (g : Model) (valid : IsValid 
 
   -- ---- all objects
 
+  -- each object is read back
   AreReadable-objects_data : (os : List Object) → ((o : Object) → Contains os o → Contains g.live o) → AreReadable (objects_data meta g os)
   AreReadable-objects_data [] each = tt
   AreReadable-objects_data (o ∷ os) each = (IsReadable-object_data o (each o (Contains-head o os)), AreReadable-objects_data os (λ p there. each p (Contains-behind o p os there)))
 
+  -- and nests three deep at most
   items_depth-objects_data : (os : List Object) → ((o : Object) → Contains os o → Contains g.live o) → items_depth (objects_data meta g os) ≤ 3
   items_depth-objects_data [] each = omega arith
   items_depth-objects_data (o ∷ os) each =
@@ -216,10 +233,12 @@ module _ (meta : Metamodel) (named : IsNamed meta) (g : Model) (valid : IsValid 
 
   -- ---- the document
 
+  -- its keys rise
   top_keys-rise : IsStrictlySortedBy (slice_cmp nat_cmp) (codes "format" ∷ codes "next" ∷ codes "objects" ∷ [])
   unfolding IsStrictlySortedBy
   top_keys-rise = ((refl, (refl, tt)), ((refl, tt), (tt, tt)))
 
+  -- the data is read back
   pub IsReadable-model_data : IsReadable (model_data meta g)
   unfolding model_data
   IsReadable-model_data =
@@ -237,6 +256,7 @@ module _ (meta : Metamodel) (named : IsNamed meta) (g : Model) (valid : IsValid 
         ),
       )
 
+  -- and nests no deeper than may be read
   pub depth-model_data : depth (model_data meta g) ≤ 127
   unfolding model_data
   depth-model_data = let objects = items_depth-objects_data g.live (λ o there. there) in omega (arith, objects)

@@ -28,13 +28,16 @@ same_link a b source reference target = λ i. record { source = source i; refere
 
 -- where the one model's links are among the other's, what is in an object there is in it here
 module _ (meta : Metamodel) (g h : Model) (among : (x : Link) → Contains h.links x → Contains g.links x) where
+  -- what holds an object there holds it here
   Holds-among : (outer inner : ObjId) → Holds meta h outer inner → Holds meta g outer inner
   Holds-among outer inner holds = record { link = holds.link; there = among holds.link holds.there; containment = holds.containment; from = holds.from; to = holds.to }
 
+  -- a path there is a path here
   LeadsOver-among : (outer inner : ObjId) (path : List ObjId) → LeadsOver meta h outer path inner → LeadsOver meta g outer path inner
   LeadsOver-among outer inner [] holds = Holds-among outer inner holds
   LeadsOver-among outer inner (o ∷ path) leads = (Holds-among outer o leads.0, LeadsOver-among o inner path leads.1)
 
+  -- so what is in an object there is in it here
   pub IsIn-among : (inner outer : ObjId) → IsIn meta h inner outer → IsIn meta g inner outer
   IsIn-among inner outer inside = (inside.0, LeadsOver-among outer inner inside.0 inside.1)
 
@@ -62,6 +65,7 @@ module _ (meta : Metamodel) (sound : IsSound meta) (g : Model) (side : LinkSide 
       let is : turned old s ≡ turned new s = All-contains (IsOnly meta g) g.links (turned new s) side.singles new_stands (not-true (is_many meta s) e) (turned old s) old_stands target refl in
       same_link old new (ap (λ l. l.target) is) reference target
 
+  -- so it is where the tests of that case hold
   same_target : (old : Link) → Contains g.links old → (old.target.0 == new.target.0 && old.reference.0 == new.reference.0 && has_single_opposite meta new.reference) ≡ true → old ≡ new
   same_target old stands e =
       let parts = and_parts (old.target.0 == new.target.0 && old.reference.0 == new.reference.0) (has_single_opposite meta new.reference) e in

@@ -47,6 +47,7 @@ no_duplicate : (p : Option ℕ) (faults : List (Option Fault)) → first_of (opt
 no_duplicate None faults e = refl
 no_duplicate (Some n) faults e = cc
 
+-- nor is there a first of the first two places
 no_first : (p q : Option ℕ) → or_else p q ≡ None → p ≡ None
 no_first None q e = refl
 no_first (Some n) q e = cc
@@ -59,6 +60,7 @@ first_place-enums document none =
     (no_duplicate (duplicate_place document) _ none)
 
 module _ (document : MetamodelDocument) (none : first_fault document ≡ None) where
+  -- no enum has a literal twice
   literal_names-metamodel_of : HasLiteralNames (metamodel_of document)
   literal_names-metamodel_of e enum at =
       let from = slice_get-from_map enum_info document.enums e enum at in
@@ -66,6 +68,7 @@ module _ (document : MetamodelDocument) (none : first_fault document ≡ None) w
       let distinct = not-false (is_distinct from.0.literals) (or_parts (is_taken document (0 + e) from.0.name) (not (is_distinct from.0.literals)) fine).1 in
       subst (λ (i : EnumInfo). is_distinct i.literals ≡ true) from.2 distinct
 
+  -- the name of each class finds it
   class_names-metamodel_of : HasClassNames (metamodel_of document)
   class_names-metamodel_of c info at =
       let from = slice_get-from_map class_info document.classes c.0 info at in
@@ -76,6 +79,7 @@ module _ (document : MetamodelDocument) (none : first_fault document ≡ None) w
 
 -- ---- names that are text
 
+-- the names of attributes
 attributes-utf8 : (n : ℕ) (cs : List ClassDocument) → All IsNamedClass cs → All (λ (d : Declared AttributeDocument). IsUtf8 d.feature.name) (attributes_from n cs)
 attributes-utf8 n [] named = All-nil (λ (d : Declared AttributeDocument). IsUtf8 d.feature.name)
 attributes-utf8 n (c ∷ cs) named =
@@ -83,6 +87,7 @@ attributes-utf8 n (c ∷ cs) named =
     (All-map (λ (d : Declared AttributeDocument). IsUtf8 d.feature.name) (λ (f : AttributeDocument). record { class = record { 0 = n }; feature = f }) c.attributes (All-head IsNamedClass c cs named).attributes)
     (attributes-utf8 (n + 1) cs (All-tail IsNamedClass c cs named))
 
+-- and of references
 references-utf8 : (n : ℕ) (cs : List ClassDocument) → All IsNamedClass cs → All (λ (d : Declared ReferenceDocument). IsUtf8 d.feature.name) (references_from n cs)
 references-utf8 n [] named = All-nil (λ (d : Declared ReferenceDocument). IsUtf8 d.feature.name)
 references-utf8 n (c ∷ cs) named =
@@ -90,6 +95,7 @@ references-utf8 n (c ∷ cs) named =
     (All-map (λ (d : Declared ReferenceDocument). IsUtf8 d.feature.name) (λ (f : ReferenceDocument). record { class = record { 0 = n }; feature = f }) c.references (All-head IsNamedClass c cs named).references)
     (references-utf8 (n + 1) cs (All-tail IsNamedClass c cs named))
 
+-- all names of a document that has its shape and no fault
 IsNamed-metamodel_of : (d : Data) (document : MetamodelDocument) → document_shape d ≡ Some document → first_fault document ≡ None → IsNamed (metamodel_of document)
 IsNamed-metamodel_of d document shape none =
     let named = IsNamedDocument-document_shape d document shape in

@@ -18,6 +18,7 @@ use Rattle.vt_model_json.proofs.DumpLoads.PlainNames.{below-identifier, IsUtf8-i
 -- ---- what holds of all that has one shape
 
 module _ {A : Type 0} (P : A → Type 0) (shape : Data → Option A) (each : (d : Data) (x : A) → shape d ≡ Some x → P x) where
+  -- each item that is read
   All-items_in : (ds : Items) (xs : List A) → items_in shape ds ≡ Some xs → All P xs
   All-items_in no_items xs e = subst (All P) (same_Some [] xs e) (All-nil P)
   All-items_in (item d ds) xs e = by (All-items_in ds) (shape d) refl (items_in shape ds) refl e
@@ -28,6 +29,7 @@ module _ {A : Type 0} (P : A → Type 0) (shape : Data → Option A) (each : (d 
       by later (Some y) of None is e = cc
       by later (Some y) of (Some ys) is e = subst (All P) (same_Some (y ∷ ys) xs e) (All-cons P y ys (each d y of) (later ys is))
 
+  -- each of a list
   pub All-list_of : (d : Data) (xs : List A) → list_of shape d ≡ Some xs → All P xs
   All-list_of d xs e = by (as_array d) e
     where
@@ -53,6 +55,7 @@ module _ {A : Type 0} (P : A → Type 0) (shape : Data → Option A) (each : (d 
 
 -- ---- names
 
+-- an identifier is text
 IsUtf8-identifier : (d : Data) (name : List ℕ) → identifier d ≡ Some name → IsUtf8 name
 IsUtf8-identifier d name e = by (as_str d) e
   where
@@ -64,14 +67,17 @@ IsUtf8-identifier d name e = by (as_str d) e
     by None e = cc
     by (Some text) e = tested text (is_name continues_identifier text) refl e
 
+-- the same under its key
 IsUtf8-required : (key : List ℕ) (d : Data) (name : List ℕ) → required key identifier d ≡ Some name → IsUtf8 name
 IsUtf8-required = of-required IsUtf8 identifier IsUtf8-identifier
 
 -- ---- enums, attributes and references
 
+-- an enum whose literals are text
 abbrev HasNamedLiterals : EnumDocument → Type 0
 HasNamedLiterals e = All IsUtf8 e.literals
 
+-- each enum is
 All-enum_shape : (d : Data) (x : EnumDocument) → enum_shape d ≡ Some x → HasNamedLiterals x
 All-enum_shape d x e =
     by (has_only (codes "name" ∷ codes "literals" ∷ []) d) (required (codes "name") identifier d) (required (codes "literals") (list_of identifier) d) refl e
@@ -86,6 +92,7 @@ All-enum_shape d x e =
         subst HasNamedLiterals (same_Some (record { name = name; literals = l ∷ ls }) x e)
         (of-required (All IsUtf8) (list_of identifier) (All-list_of IsUtf8 identifier IsUtf8-identifier) (codes "literals") d (l ∷ ls) of)
 
+-- the name of an attribute is text
 IsUtf8-attribute_shape : (d : Data) (x : AttributeDocument) → attribute_shape d ≡ Some x → IsUtf8 x.name
 IsUtf8-attribute_shape d x e =
     by (has_only (codes "name" ∷ codes "kind" ∷ []) d) (required (codes "name") identifier d) refl (required (codes "kind") as_str d) e
@@ -97,6 +104,7 @@ IsUtf8-attribute_shape d x e =
     by true (Some name) of None e = cc
     by true (Some name) of (Some kind) e = subst (λ (y : AttributeDocument). IsUtf8 y.name) (same_Some (record { name = name; kind = kind }) x e) (IsUtf8-required (codes "name") d name of)
 
+-- and that of a reference
 IsUtf8-reference_shape : (d : Data) (x : ReferenceDocument) → reference_shape d ≡ Some x → IsUtf8 x.name
 IsUtf8-reference_shape d x e =
     by (has_only (codes "name" ∷ codes "target" ∷ codes "many" ∷ codes "containment" ∷ codes "opposite" ∷ []) d) (required (codes "name") identifier d) refl
@@ -122,6 +130,7 @@ pub record IsNamedClass (c : ClassDocument) : Type 0 where
   pub attributes : All (λ a. IsUtf8 a.name) c.attributes
   pub references : All (λ r. IsUtf8 r.name) c.references
 
+-- each class that has its shape
 IsNamedClass-class_shape : (d : Data) (x : ClassDocument) → class_shape d ≡ Some x → IsNamedClass x
 IsNamedClass-class_shape d x e =
     by (has_only (codes "name" ∷ codes "abstract" ∷ codes "supers" ∷ codes "attributes" ∷ codes "references" ∷ []) d) (required (codes "name") identifier d) refl

@@ -60,6 +60,7 @@ create_made meta h name class n c named concrete fresh number free few = rw (nam
 max-left : (m n : ℕ) → n ≤ m → max m n ≡ m
 max-left m n most = omega arith
 
+-- a number below the most passes
 leb-above : (n : ℕ) → n < 1048576 → nat_le 1048576 n ≡ false
 leb-above n below = grind (arith, nat_tests)
 

@@ -10,18 +10,22 @@ use Rattle.vt_json.specs.Names.{begins_name, continues_identifier, continues_obj
 
 -- ---- bytes of names
 
+-- a byte that begins a name is ASCII
 below-begins : (b : ℕ) → begins_name b ≡ true → b < 128
 below-begins b e = grind (arith, nat_tests)
 
+-- so is one of an identifier
 pub below-identifier : (b : ℕ) → continues_identifier b ≡ true → b < 128
 below-identifier b e = grind (arith, nat_tests)
 
+-- and one of an object's name
 pub below-object_name : (b : ℕ) → continues_object_name b ≡ true → b < 128
 below-object_name b e = grind (arith, nat_tests)
 
 -- ---- names
 
 module _ (continues : ℕ → Bool) (small : (b : ℕ) → continues b ≡ true → b < 128) where
+  -- bytes that are ASCII, as a test
   are_ascii-list_all : (bs : List ℕ) → list_all continues bs ≡ true → are_ascii bs ≡ true
   are_ascii-list_all [] e = e
   are_ascii-list_all (b ∷ bs) e =

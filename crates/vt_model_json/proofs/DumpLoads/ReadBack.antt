@@ -1,100 +1,32 @@
 -- The compact text of data is text, and is read back as the data.
-use Rattle.std.proofs.Common.{◌≡◌, ℕ, suc, ◌^◌, ◌<◌, ◌≤◌, pos, negsuc, List, [], ◌∷◌, ◌++◌, Bool, true, false, Option, Some, IsUtf8, refl, sym, ap, ap₂, subst, ◌∙◌, append-nil, append_assoc, arith, inl, inr}
-use Rattle.std.specs.Prelude.{⊤, max, option_map, option_and_then}
+use Rattle.std.proofs.Common.{◌≡◌, ℕ, suc, ◌≤◌, List, [], ◌∷◌, ◌++◌, Bool, true, false, Option, Some, IsUtf8, refl, sym, ap, ap₂, subst, ◌∙◌, append-nil, append_assoc, arith}
+use Rattle.std.specs.Prelude.{max, option_map, option_and_then}
 use Rattle.std.specs.List.{AllByRecursion}
 use Rattle.std.specs.List.Sorted.{IsStrictlySortedBy}
 use Rattle.std.specs.Cmp.Lexicographic.{slice_cmp}
 use Rattle.std.specs.Ordering.{nat_cmp, match_ordering, ordering_reverse}
 use Rattle.std.specs.declared.cmp.Ordering.TheVariants.{Less, Greater}
-use Rattle.std.proofs.lemmas.Bool.{cases_lt}
 use Rattle.std.proofs.lemmas.Cmp.{nat_list_cmp_total}
-use Rattle.std.proofs.lemmas.Fmt.{IsAscii-decimal}
 use Rattle.std.proofs.lemmas.List.Elements.{Contains-append_right}
 use Rattle.std.proofs.lemmas.Map.Keys.{sorted_tail}
-use Rattle.std.proofs.lemmas.Str.{IsUtf8-append, IsUtf8-nil, IsUtf8-from_ascii}
-use Rattle.std.specs.Fmt.{digits, signed_decimal}
+use Rattle.std.proofs.lemmas.Str.{IsUtf8-append, IsUtf8-nil}
 use Rattle.json.specs.Token.{Token}
 use Rattle.json.specs.Lex.{tokens}
 use Rattle.json.specs.Json as json
-use Rattle.json.specs.Print.{IsNumber}
-use Rattle.json.specs.Word.{after_number}
 use Rattle.json.specs.Tree as tree
-use Rattle.json.proofs.Printed.Decimals.{IsNumber-decimal, IsNumber-signed_decimal}
 use Rattle.json.proofs.Printed.Tokens.{tokens-print}
 use Rattle.json.proofs.Printed.Trees.{value-json_tokens, ArePrintable-json_tokens}
 use Rattle.json.proofs.Printed.Utf8.{IsUtf8-are_ascii, IsUtf8-quoted, IsUtf8-boolean}
-use Rattle.serde_json.specs.Data.{Num, unsigned, negative, float, Data, null, boolean, number, string, array, object, Items, no_items, item, Members, no_members, member, put, depth, items_depth, members_depth}
-use Rattle.serde_json.specs.Read.{number_of, of_json, of_items, of_members, max_depth, read}
-use Rattle.serde_json.specs.Written.{number_text, outline, items_outline, members_outline, comma_if, compact_text, items_text, members_text}
-use Rattle.serde_json.proofs.Numbers.{number_of-decimal, number_of-negative}
+use Rattle.serde_json.specs.Data.{Data, null, boolean, number, string, array, object, Items, no_items, item, Members, no_members, member, put, depth, items_depth, members_depth}
+use Rattle.serde_json.specs.Read.{of_json, of_items, of_members, max_depth, read}
+use Rattle.serde_json.specs.Written.{outline, items_outline, members_outline, comma_if, compact_text, items_text, members_text}
 use Rattle.serde_json.proofs.Texts.{print-outline}
 use Rattle.vt_json.specs.Json.{json_of}
 use Rattle.vt_json.specs.Shape.{keys_of}
 use Rattle.vt_json.proofs.JsonLemmas.{json_of_text}
 use Rattle.vt_meta.proofs.MemberLemmas.{Contains-head}
 use Rattle.vt_model_json.proofs.DumpLoads.Lists.{below_head}
-
--- ---- what data has to be
-
--- a whole number of 64 bits
-abbrev pub IsReadableNumber : Num → Type 0
-IsReadableNumber (unsigned n) = n < 2 ^ 64
-IsReadableNumber (negative (pos n)) = ⊥
-IsReadableNumber (negative (negsuc n)) = n < 2 ^ 63
-IsReadableNumber (float x) = ⊥
-
--- keys rise
-abbrev pub KeysRise : Members → Type 0
-KeysRise ms = IsStrictlySortedBy (slice_cmp nat_cmp) (keys_of ms)
-
--- whole numbers have 64 bits, texts are UTF-8, and the keys of each object rise
-abbrev mutual
-  pub IsReadable : Data → Type 0
-  IsReadable null = ⊤
-  IsReadable (boolean b) = ⊤
-  IsReadable (number n) = IsReadableNumber n
-  IsReadable (string s) = IsUtf8 s
-  IsReadable (array ds) = AreReadable ds
-  IsReadable (object ms) = KeysRise ms × MembersAreReadable ms
-
-  pub AreReadable : Items → Type 0
-  AreReadable no_items = ⊤
-  AreReadable (item d ds) = IsReadable d × AreReadable ds
-
-  pub MembersAreReadable : Members → Type 0
-  MembersAreReadable no_members = ⊤
-  MembersAreReadable (member k d ms) = IsUtf8 k × IsReadable d × MembersAreReadable ms
-
--- ---- numbers
-
-number_of-number_text : (n : Num) → IsReadableNumber n → number_of (number_text n) ≡ Some n
-number_of-number_text (unsigned n) fits = number_of-decimal n fits
-number_of-number_text (negative (pos n)) fits = absurd fits
-number_of-number_text (negative (negsuc n)) fits = number_of-negative n fits
-number_of-number_text (float x) fits = absurd fits
-
--- the least number
-IsNumber-least : IsNumber (signed_decimal (negsuc 9223372036854775807))
-unfolding after_number digits
-IsNumber-least = refl
-
-IsNumber-negsuc : (n : ℕ) → n < 2 ^ 63 → IsNumber (signed_decimal (negsuc n))
-IsNumber-negsuc n fits = elim (cases_lt n 9223372036854775807) [
-  | inl less ↦ IsNumber-signed_decimal (negsuc n) (omega arith)
-  | inr most ↦ (let is : 9223372036854775807 ≡ n = omega arith in subst (λ m. IsNumber (signed_decimal (negsuc m))) is IsNumber-least)
-]
-
-IsNumber-number_text : (n : Num) → IsReadableNumber n → IsNumber (number_text n)
-IsNumber-number_text (unsigned n) fits = IsNumber-decimal n fits
-IsNumber-number_text (negative (pos n)) fits = absurd fits
-IsNumber-number_text (negative (negsuc n)) fits = IsNumber-negsuc n fits
-IsNumber-number_text (float x) fits = absurd fits
-
-IsUtf8-number_text : (n : Num) → IsReadableNumber n → IsUtf8 (number_text n)
-IsUtf8-number_text (unsigned n) fits = IsUtf8-from_ascii _ (IsAscii-decimal n fits)
-IsUtf8-number_text (negative (pos n)) fits = absurd fits
-IsUtf8-number_text (negative (negsuc n)) fits = IsUtf8-append (45 ∷ []) _ (IsUtf8-are_ascii (45 ∷ []) refl) (IsUtf8-from_ascii _ (IsAscii-decimal (suc n) (omega arith)))
-IsUtf8-number_text (float x) fits = absurd fits
+use Rattle.vt_model_json.proofs.DumpLoads.Readable.{IsReadable, AreReadable, MembersAreReadable, number_of-number_text, IsNumber-number_text, IsUtf8-number_text}
 
 -- ---- members
 
@@ -103,14 +35,17 @@ abbrev joined_members : Members → Members → Members
 joined_members no_members ms = ms
 joined_members (member k d found) ms = member k d (joined_members found ms)
 
+-- no others
 joined_members-none : (found : Members) → joined_members found no_members ≡ found
 joined_members-none no_members = refl
 joined_members-none (member k d found) = ap (member k d) (joined_members-none found)
 
+-- members in three parts
 joined_members-twice : (a b c : Members) → joined_members (joined_members a b) c ≡ joined_members a (joined_members b c)
 joined_members-twice no_members b c = refl
 joined_members-twice (member k d a) b c = ap (member k d) (joined_members-twice a b c)
 
+-- the keys of both
 keys_of-joined_members : (a b : Members) → keys_of (joined_members a b) ≡ keys_of a ++ keys_of b
 keys_of-joined_members no_members b = refl
 keys_of-joined_members (member k d a) b = ap (λ keys. k ∷ keys) (keys_of-joined_members a b)
@@ -198,6 +133,7 @@ mutual
 
 -- ---- the text is UTF-8
 
+-- a comma or nothing
 IsUtf8-comma_if : (later : Bool) → IsUtf8 (comma_if later)
 IsUtf8-comma_if true = IsUtf8-are_ascii (44 ∷ []) refl
 IsUtf8-comma_if false = IsUtf8-nil
@@ -233,6 +169,7 @@ mutual
 abbrev whole : Option (json.Json × List Token) → Option Data
 whole o = option_and_then of_json (option_and_then (λ p. json.if_last p.0 p.1) o)
 
+-- the tokens of the text are those of the outline, which is read as the data
 read-compact_text : (d : Data) → IsReadable d → depth d ≤ 127 → read (compact_text d) ≡ Some d
 read-compact_text d readable shallow =
     let same : tokens (compact_text d) ≡ tree.json_tokens (outline d) =

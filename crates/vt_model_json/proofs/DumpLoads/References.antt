@@ -50,9 +50,11 @@ references_by_key meta g o = references_from meta g (links_of g o.number) [] 0 m
 abbrev AreFrom : Metamodel → ℕ → List RefInfo → Type 0
 AreFrom meta r infos = (k : ℕ) → slice_get meta.references (r + k) ≡ slice_get infos k
 
+-- but for the first they are those from the next on
 AreFrom-next : (meta : Metamodel) (r : ℕ) (info : RefInfo) (infos : List RefInfo) → AreFrom meta r (info ∷ infos) → AreFrom meta (r + 1) infos
 AreFrom-next meta r info infos are k = let same : r + 1 + k ≡ r + suc k = omega arith in ap (slice_get meta.references) same ∙ are (suc k)
 
+-- the first has its name
 AreFrom-first : (meta : Metamodel) (r : ℕ) (info : RefInfo) (infos : List RefInfo) → AreFrom meta r (info ∷ infos) → reference_name meta r ≡ info.name
 AreFrom-first meta r info infos are =
     let same : r ≡ r + 0 = omega arith in
@@ -64,11 +66,13 @@ record HasLink (links : List Link) (r : ℕ) : Type 0 where
   there : Contains links link
   is : link.reference.0 ≡ r
 
+-- one that a filter finds
 HasLink-filter : (links : List Link) (r : ℕ) (x : Link) (xs : List Link) → filter (λ link. link.reference.0 == r) links ≡ x ∷ xs → HasLink links r
 HasLink-filter links r x xs e =
     let was = Contains-from_filter (λ link. link.reference.0 == r) links x (subst (λ l. Contains l x) (sym e) (Contains-head x xs)) in
     record { link = x; there = was.0; is = eqb-true x.reference.0 r was.1 }
 
+-- one whose target is named
 HasLink-target_names : (g : Model) (links : List Link) (r : ℕ) (t : List ℕ) (ts : List (List ℕ)) → target_names g r links ≡ t ∷ ts → HasLink links r
 HasLink-target_names g links r t ts e = by (filter (λ link. link.reference.0 == r) links) refl e
   where
@@ -115,9 +119,11 @@ module _ (meta : Metamodel) (sound : IsSound meta) (g : Model) (valid : IsValid 
       let reference : a.reference ≡ b.reference = cc in
       sym first.is ∙ ap (λ n. n.0) reference ∙ second.is
 
+  -- the key of a reference
   abbrev key : ℕ → List ℕ
   key = reference_name meta
 
+  -- what stands under it
   abbrev shown : ℕ → Data
   shown = data_of_reference g own_links
 
@@ -135,6 +141,7 @@ module _ (meta : Metamodel) (sound : IsSound meta) (g : Model) (valid : IsValid 
           ∙ ap (λ names. put (key r) (array (texts names)) (spelled key shown rs)) (sym e)
           ∙ put-spelled key shown r rs (λ s among same. exact-own r s some (first s among) same)
 
+  -- each has a link
   among-with_reference : (rs : List ℕ) (r : ℕ) → ((s : ℕ) → Contains rs s → HasLink own_links s) → (s : ℕ) → Contains (with_reference meta (target_names g r own_links) rs r) s → HasLink own_links s
   among-with_reference rs r first = by (target_names g r own_links) refl
     where
@@ -165,15 +172,18 @@ module _ (meta : Metamodel) (sound : IsSound meta) (g : Model) (valid : IsValid 
 
   -- ---- each link's reference is among them
 
+  -- what stood before stands still
   with_reference-old : (names : List (List ℕ)) (rs : List ℕ) (r s : ℕ) → Contains rs s → Contains (with_reference meta names rs r) s
   with_reference-old [] rs r s there = there
   with_reference-old (t ∷ ts) rs r s there = Contains-insert_key_old (by_key (reference_name meta)) r rs s there
 
+  -- after all others too
   references_from-old : (rs : List ℕ) (r : ℕ) (infos : List RefInfo) (s : ℕ) → Contains rs s → Contains (references_from meta g own_links rs r infos) s
   references_from-old rs r [] s there = there
   references_from-old rs r (info ∷ infos) s there =
       references_from-old (with_reference meta (target_names g r own_links) rs r) (r + 1) infos s (with_reference-old (target_names g r own_links) rs r s there)
 
+  -- a reference with a link is put in
   with_reference-new : (rs : List ℕ) (x : Link) → Contains own_links x → ((s : ℕ) → Contains rs s → HasLink own_links s)
       → Contains (with_reference meta (target_names g x.reference.0 own_links) rs x.reference.0) x.reference.0
   with_reference-new rs x own first = by (target_names g x.reference.0 own_links) refl
@@ -186,6 +196,7 @@ module _ (meta : Metamodel) (sound : IsSound meta) (g : Model) (valid : IsValid 
       by (t ∷ ts) e = Contains-insert_key_here (by_key (reference_name meta)) x.reference.0 rs
           (λ s among same. exact-own x.reference.0 s (record { link = x; there = own; is = refl }) (first s among) same)
 
+  -- and stands after all others
   references_from-new : (rs : List ℕ) (r k : ℕ) (infos : List RefInfo) (x : Link) → Contains own_links x → ((s : ℕ) → Contains rs s → HasLink own_links s)
       → x.reference.0 ≡ r + k → k < length infos → Contains (references_from meta g own_links rs r infos) x.reference.0
   references_from-new rs r k [] x own first at below = absurd (omega (arith, below))

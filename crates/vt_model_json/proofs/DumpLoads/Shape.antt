@@ -67,9 +67,11 @@ entry_shape-value_data meta (value.Obj o) fits = refl
 
 -- ---- names
 
+-- a name that has the form of one
 object_name-string : (name : List ℕ) → is_name continues_object_name name ≡ true → object_name (string name) ≡ Some name
 object_name-string name form = ap (λ b. if b then Some name else None) form
 
+-- names that have it
 items_in-texts : (names : List (List ℕ)) → ((n : List ℕ) → Contains names n → is_name continues_object_name n ≡ true) → items_in object_name (texts names) ≡ Some names
 items_in-texts [] each = refl
 items_in-texts (n ∷ names) each =
@@ -102,6 +104,7 @@ module _ (meta : Metamodel) (sound : IsSound meta) (g : Model) (valid : IsValid 
       let form = All-contains (λ o. is_name continues_object_name o.name ≡ true) g.live p writable.names target.is_live.there in
       subst (λ n. is_name continues_object_name n ≡ true) (sym (name_of-live meta g valid p target.is_live.there) ∙ from.2) form
 
+  -- an object's data has the shape of its document
   object_shape-object_data : (o : Object) → Contains g.live o → object_shape (object_data meta g o) ≡ Some (document_of meta g o)
   object_shape-object_data o live =
       object_shape-members (object (attribute_members meta no_members (values_of g o.number))) (object (link_members g (links_of g o.number) no_members 0 meta.references))
@@ -119,6 +122,7 @@ module _ (meta : Metamodel) (sound : IsSound meta) (g : Model) (valid : IsValid 
 
   -- ---- all objects
 
+  -- each object has its document
   items_in-objects_data : (os : List Object) → ((o : Object) → Contains os o → Contains g.live o) → items_in object_shape (objects_data meta g os) ≡ Some (map (document_of meta g) os)
   items_in-objects_data [] each = refl
   items_in-objects_data (o ∷ os) each =
@@ -145,6 +149,7 @@ module _ (meta : Metamodel) (sound : IsSound meta) (g : Model) (valid : IsValid 
       let here = below o (Contains-head o os) in
       above_all-live (o.number.0 + 1) os (omega (arith, here)) (λ p there. below p (Contains-behind o p os there))
 
+  -- the numbers and the next number are as a document asks
   with_next-live : with_next (map (document_of meta g) g.live) g.next ≡ Some (whole_document meta g)
   with_next-live =
       let below : (o : Object) → Contains g.live o → o.number.0 < g.next = λ o there. All-contains (λ p. p.number.0 < g.next) g.live o valid.numbers_below there in

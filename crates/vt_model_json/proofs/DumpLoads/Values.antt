@@ -34,6 +34,7 @@ use Rattle.vt_model_json.proofs.DumpLoads.Given.{given_of, HasLiteralNames, IsGi
 
 -- ---- values of one object and attribute
 
+-- the order is total
 pub value_order_total : IsTotalOrder value_order
 value_order_total = then_total (on_total (λ t. t.object.0) nat_cmp_total) (on_total (λ t. t.attribute.0) nat_cmp_total)
 
@@ -41,6 +42,7 @@ value_order_total = then_total (on_total (λ t. t.object.0) nat_cmp_total) (on_t
 pub value_order-same : (t u : AttributeValue) → t.object.0 ≡ u.object.0 → t.attribute.0 ≡ u.attribute.0 → value_order t u ≡ Equal
 value_order-same t u object attribute = grind (arith, nat_tests)
 
+-- and by nothing else
 value_order-Equal : (t u : AttributeValue) → value_order t u ≡ Equal → (t.object.0 ≡ u.object.0) × (t.attribute.0 ≡ u.attribute.0)
 value_order-Equal t u e = grind (arith, nat_tests)
 
