@@ -17,6 +17,7 @@ pub mod ReadBack
 pub mod PlainNames
 pub mod MetaShapes
 pub mod MetaNames
+pub mod DataParts
 pub mod DataText
 use Rattle.std.proofs.Common.{◌≡◌, ℕ, List, [], refl, ap, ◌∙◌}
 use Rattle.std.specs.Prelude.{Some, Ok}
