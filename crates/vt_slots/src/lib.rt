@@ -1,0 +1,21 @@
+//! What a store keeps of each object: its number, its name and its class, and while it lives its
+//! values and the ends of its links.
+//!
+//! It stands on `vt_base` and `vt_meta`, and finds names by `indexmap`. Read `specs/Values.antt`,
+//! `specs/Ends.antt`, then `specs/Slots.antt`.
+#![tactic(auto)]
+
+// What one object has.
+mod ends;
+mod values;
+// All objects.
+mod name;
+mod slot;
+mod slots;
+
+// What one object has.
+pub use ends::{EndList, Ends};
+pub use values::{Held, Values};
+// All objects.
+pub use slot::{Body, Side, Slot};
+pub use slots::Slots;
