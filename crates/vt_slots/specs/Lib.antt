@@ -2,3 +2,5 @@
 pub mod Values
 pub mod Ends
 pub mod Slots
+-- what the functions inside the crate promise each other
+pub mod Inside

@@ -7,7 +7,7 @@ use Rattle.vt_base.specs.declared.numbers.ObjId.{ObjId}
 use Rattle.vt_base.specs.declared.numbers.AttrId.{AttrId}
 use Rattle.vt_base.specs.declared.value.Value.{Value}
 use Rattle.vt_meta.specs.Declarations.{is_name, is_distinct}
-use Rattle.vt_slots.specs.Values.{with_held}
+use Rattle.vt_slots.specs.Values.{value_in, with_held}
 use Rattle.vt_slots.specs.Ends.{EndList}
 use Rattle.vt_slots.specs.declared.slot.Side.{Side}
 use Rattle.vt_slots.specs.declared.slot.Side.TheVariants.{Outgoing, Incoming}
@@ -46,6 +46,10 @@ ends_on Incoming body = body.incoming
 -- the ends of an object on a side, none of one that isn't live
 abbrev pub ends_at : List Slot → ObjId → Side → List EndList
 ends_at slots o side = unwrap_or (option_map (ends_on side) (body_at slots o)) []
+
+-- the value that an object has for an attribute
+abbrev pub slot_value : List Slot → ObjId → AttrId → Option Value
+slot_value slots o a = option_and_then (λ (body : Body). value_in body.values a) (body_at slots o)
 
 -- ---- what a change does
 

@@ -19,3 +19,5 @@ pub use values::{Held, Values};
 // All objects.
 pub use slot::{Body, Side, Slot};
 pub use slots::Slots;
+#[cfg(test)]
+mod tests;

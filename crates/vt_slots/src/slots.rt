@@ -1,12 +1,17 @@
 // All objects that ever were, by number and by name.
-ghost use Rattle.std.specs.Prelude.{◌≡◌, [], length};
-ghost use Rattle.vt_slots.specs.Slots.{NumbersRise, NamesDiffer};
+ghost use Rattle.std.specs.Prelude.{◌≡◌, ◌<◌, ◌≤◌, [], ◌∷◌, ◌++◌, All, map, length, None, Some, IsSome, IsSomeAnd, IsOk, OnOk, OnErr, MatchOption};
+ghost use Rattle.std.specs.Option.{option_copied};
+ghost use Rattle.vt_slots.specs.Values.{HasPlace};
+ghost use Rattle.vt_slots.specs.Ends.{AddsEnd, DropsEnd, SameEnds, KeepsRoom, SameRoom, ReferencesRise, ObjectsRise, objects_of, capacity_of};
+ghost use Rattle.vt_slots.specs.Slots.{NumbersRise, NamesDiffer, slot_at, slot_named, body_at, ends_at, slot_value, with_body, with_slot_value, bare, OtherEndsStay};
+ghost use Rattle.vt_slots.specs.Inside.Place.{IsPlace};
 
-use crate::Slot;
 use crate::name::Name;
+use crate::{Body, Side, Slot};
 use indexmap::IndexSet;
 use std::alloc::Global;
 use std::marker::Model;
+use vt_base::{AttrId, ClassId, NoMemory, ObjId, RefId, Text, Value};
 
 /// A slot for each object that ever was, in rising order of number.
 #[derive(Drop)]
@@ -54,4 +59,134 @@ impl Slots {
     {
         self.slots.as_slice()
     }
+
+    /// The slot with a number. `None` is of a number that no slot has.
+    pub fn at(&self, o: ObjId) -> Option<&Slot>
+        ensures { option_copied result ≡ slot_at self.now o }
+    {
+        let i = place_of(self.slots.as_slice(), o).ok()?;
+        self.slots.get(i)
+    }
+
+    /// The slot with a name. `None` is of a name that no slot has.
+    pub fn named(&self, name: &str) -> Option<&Slot>
+        ensures { option_copied result ≡ slot_named self.now name.now }
+    {
+        let i = self.names.get_index_of(name)?;
+        self.slots.get(i)
+    }
+
+    /// Adds the slot of a new object at the end.
+    pub fn push(
+        &mut self,
+        number: ObjId,
+        name: Text,
+        class: ClassId,
+        body: Body,
+    ) -> Result<(), NoMemory>
+        requires above { All (λ s. s.number.0 < number.0) self.old }
+        requires fresh { slot_named self.old name ≡ None }
+        ensures added { OnOk result (self.new ≡ self.old ++ record { number = number; name = name; class = class; body = Some body } ∷ []) }
+        ensures unchanged { OnErr result (self.new ≡ self.old) }
+    {
+        self.slots.reserve(1)?;
+        self.names.insert(Name { text: name.share() })?;
+        self.slots.push(Slot {
+            number,
+            name,
+            class,
+            body: Some(body),
+        })?;
+        Ok(())
+    }
+
+    /// Takes the last slot out, and its name with it.
+    pub fn pop(&mut self) -> Option<Slot>
+        ensures { MatchOption result
+            ((self.old ≡ []) × (self.new ≡ []))
+            (λ last. self.old ≡ self.new ++ last ∷ []) }
+    {
+        let slot = self.slots.pop()?;
+        self.names.pop();
+        Some(slot)
+    }
+
+    /// Takes the body of an object out. `None` is of an object that isn't live.
+    pub fn take_body(&mut self, o: ObjId) -> Option<Body>
+        ensures taken { result ≡ body_at self.old o }
+        ensures left { self.new ≡ with_body self.old o None }
+    {
+        let i = place_of(self.slots.as_slice(), o).ok()?;
+        self.slots[i].body.take()
+    }
+
+    /// Gives an object a body. One that it has already is dropped.
+    pub fn give_body(&mut self, o: ObjId, body: Body)
+        requires there { IsSome (slot_at self.old o) }
+        ensures { self.new ≡ with_body self.old o (Some body) }
+    {
+        if let Ok(i) = place_of(self.slots.as_slice(), o) {
+            self.slots[i].body = Some(body);
+        }
+    }
+
+    /// Puts a value, or none, at the place of an object's attribute. The answer is what was there.
+    pub fn put_value(&mut self, o: ObjId, a: AttrId, value: Option<Value>) -> Option<Value>
+        requires there { IsSomeAnd (body_at self.old o) (λ body. HasPlace body.values a) }
+        ensures taken { result ≡ slot_value self.old o a }
+        ensures put { self.new ≡ with_slot_value self.old o a value }
+    {
+        let i = place_of(self.slots.as_slice(), o).ok()?;
+        self.slots[i].put_value(a, value)
+    }
+
+    /// Adds an object to those at the ends of an object's links of a reference, on a side. Where it
+    /// stands there already, nothing changes. It never fails where there is room.
+    pub fn insert_end(
+        &mut self,
+        o: ObjId,
+        side: Side,
+        r: RefId,
+        other: ObjId,
+    ) -> Result<(), NoMemory>
+        requires live { IsSome (body_at self.old o) }
+        ensures bare { map bare self.new ≡ map bare self.old }
+        ensures there { OnOk result (AddsEnd (ends_at self.old o side) (ends_at self.new o side) r other) }
+        ensures unchanged { OnErr result (SameEnds (ends_at self.old o side) (ends_at self.new o side)) }
+        ensures others { OtherEndsStay self.old self.new o side }
+        ensures room { KeepsRoom (ends_at self.old o side) (ends_at self.new o side) }
+        ensures succeeds { length (objects_of (ends_at self.old o side) r) < capacity_of (ends_at self.old o side) r → IsOk result }
+        ensures references_rise { ReferencesRise (ends_at self.new o side) }
+        ensures objects_rise { All (λ l. ObjectsRise l.objects) (ends_at self.new o side) }
+        ensures fits { All (λ l. length l.objects ≤ l.capacity) (ends_at self.new o side) }
+    {
+        match place_of(self.slots.as_slice(), o) {
+            Ok(i) => self.slots[i].insert_end(side, r, other),
+            Err(_) => Ok(()),
+        }
+    }
+
+    /// Takes an object out of those at the ends of an object's links of a reference, on a side. The
+    /// room stays.
+    pub fn remove_end(&mut self, o: ObjId, side: Side, r: RefId, other: ObjId)
+        ensures bare { map bare self.new ≡ map bare self.old }
+        ensures there { DropsEnd (ends_at self.old o side) (ends_at self.new o side) r other }
+        ensures others { OtherEndsStay self.old self.new o side }
+        ensures room { SameRoom (ends_at self.old o side) (ends_at self.new o side) }
+        ensures references_rise { ReferencesRise (ends_at self.new o side) }
+        ensures objects_rise { All (λ l. ObjectsRise l.objects) (ends_at self.new o side) }
+        ensures fits { All (λ l. length l.objects ≤ l.capacity) (ends_at self.new o side) }
+    {
+        if let Ok(i) = place_of(self.slots.as_slice(), o) {
+            self.slots[i].remove_end(side, r, other);
+        }
+    }
+}
+
+// Where the slot of an object stands, or else where it would.
+fn place_of(slots: &[Slot], o: ObjId) -> Result<usize, usize>
+    requires { NumbersRise slots.now }
+    ensures { IsPlace (λ s. s.number.0) o.0 slots.now result }
+{
+    slots.binary_search_by_key(&o.0, |slot| slot.number.0)
 }

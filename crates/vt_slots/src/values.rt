@@ -1,8 +1,11 @@
 // The values of one object.
 ghost use Rattle.std.specs.Prelude.{◌≡◌};
-ghost use Rattle.vt_slots.specs.Values.{AttributesRise};
+ghost use Rattle.std.specs.Option.{option_copied};
+ghost use Rattle.vt_slots.specs.Values.{AttributesRise, HasPlace, value_in, with_held};
+ghost use Rattle.vt_slots.specs.Inside.Place.{IsPlace};
 
 use std::marker::Model;
+use std::mem;
 use vt_base::{AttrId, Value};
 
 /// The place of an attribute, with its value or without.
@@ -45,4 +48,37 @@ impl Values {
     {
         self.places.as_slice()
     }
+
+    #[tactic(auto, using(crate::proofs::PlaceLemmas::inside_stands, crate::proofs::PlaceLemmas::find_goes))]
+    /// The value of an attribute. `None` is of one without a value, and of one without a place.
+    pub fn get(&self, a: AttrId) -> Option<&Value>
+        ensures { option_copied result ≡ value_in self.now a }
+    {
+        match place_of(self.places.as_slice(), a) {
+            Ok(i) => self.places[i].value.as_ref(),
+            Err(_) => None,
+        }
+    }
+
+    /// Puts a value, or none, at an attribute's place. The answer is what was there.
+    #[tactic(auto, using(crate::proofs::PlaceLemmas::inside_stands))]
+    pub fn put(&mut self, a: AttrId, value: Option<Value>) -> Option<Value>
+        requires there { HasPlace self.old a }
+        ensures taken { result ≡ value_in self.old a }
+        ensures put { self.new ≡ with_held self.old a value }
+    {
+        match place_of(self.places.as_slice(), a) {
+            Ok(i) => mem::replace(&mut self.places[i].value, value),
+            Err(_) => None,
+        }
+    }
+}
+
+// Where the place of an attribute stands, or else where it would.
+#[tactic(auto, using(crate::proofs::PlaceLemmas::placed))]
+fn place_of(places: &[Held], a: AttrId) -> Result<usize, usize>
+    requires { AttributesRise places.now }
+    ensures { IsPlace (λ h. h.attribute.0) a.0 places.now result }
+{
+    places.binary_search_by_key(&a.0, |held| held.attribute.0)
 }
