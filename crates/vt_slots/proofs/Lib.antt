@@ -1,2 +1,3 @@
 pub mod PlaceLemmas
 pub mod ValuesLemmas
+pub mod EndsLemmas

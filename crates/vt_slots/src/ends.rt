@@ -54,6 +54,7 @@ impl EndList {
     }
 
     // Adds an object. Where it stands already, nothing changes.
+    #[tactic(auto, using(crate::proofs::PlaceLemmas::inside_goes))]
     fn insert(&mut self, o: ObjId) -> Result<(), NoMemory>
         ensures reference { self.new.reference ≡ self.old.reference }
         ensures added { OnOk result (self.new.objects ≡ insert_key number_order self.old.objects o) }
@@ -73,6 +74,7 @@ impl EndList {
     }
 
     // Takes an object out, where it stands.
+    #[tactic(auto, using(crate::proofs::PlaceLemmas::inside_stands))]
     fn remove(&mut self, o: ObjId)
         ensures reference { self.new.reference ≡ self.old.reference }
         ensures taken { self.new.objects ≡ filter (λ x. not (x.0 == o.0)) self.old.objects }
@@ -80,8 +82,11 @@ impl EndList {
         ensures rises { ObjectsRise self.new.objects }
         ensures fits { length self.new.objects ≤ self.new.capacity }
     {
-        if let Ok(i) = place_of_object(self.objects.as_slice(), o) {
-            self.objects.remove(i);
+        match place_of_object(self.objects.as_slice(), o) {
+            Ok(i) => {
+                self.objects.remove(i);
+            }
+            Err(_) => {}
         }
     }
 }
@@ -126,6 +131,7 @@ impl Ends {
     }
 
     /// The objects at the other end of the links of a reference.
+    #[tactic(auto, using(crate::proofs::PlaceLemmas::inside_stands))]
     pub fn objects(&self, r: RefId) -> &[ObjId]
         ensures value { result.now ≡ objects_of self.now r }
         ensures rises { ObjectsRise result.now }
@@ -139,6 +145,7 @@ impl Ends {
 
     /// Adds an object to those of a reference. Where it stands already, nothing changes. It never
     /// fails where there is room.
+    #[tactic(auto, using(crate::proofs::PlaceLemmas::inside_stands, crate::proofs::PlaceLemmas::inside_goes))]
     pub fn insert(&mut self, r: RefId, o: ObjId) -> Result<(), NoMemory>
         ensures added { OnOk result (AddsEnd self.old self.new r o) }
         ensures unchanged { OnErr result (SameEnds self.old self.new) }
@@ -159,6 +166,7 @@ impl Ends {
     }
 
     /// Takes an object out of those of a reference, where it stands there. The room stays.
+    #[tactic(auto, using(crate::proofs::PlaceLemmas::inside_stands))]
     pub fn remove(&mut self, r: RefId, o: ObjId)
         ensures dropped { DropsEnd self.old self.new r o }
         ensures room { SameRoom self.old self.new }
@@ -166,8 +174,9 @@ impl Ends {
         ensures objects_rise { All (λ l. ObjectsRise l.objects) self.new }
         ensures fits { All (λ l. length l.objects ≤ l.capacity) self.new }
     {
-        if let Ok(i) = place_of_list(self.lists.as_slice(), r) {
-            self.lists[i].remove(o);
+        match place_of_list(self.lists.as_slice(), r) {
+            Ok(i) => self.lists[i].remove(o),
+            Err(_) => {}
         }
     }
 }

@@ -1,0 +1,11 @@
+use Rattle.std.proofs.Common.{rules}
+use Rattle.std.proofs.lemmas.List.Sorted.{answers_always}
+use Rattle.vt_slots.proofs.PlaceLemmas.{placed}
+use Rattle.vt_slots.proofs.EndsLemmas.{reference_number}
+use Rattle.vt_slots.proofs.ends.place_of_list.Goals as goal
+
+pub returns : goal.returns
+returns c =
+    let facts = c.binary_search_by_key.ensures in
+    let by_key = facts.position reference_number (answers_always _ _ _ (λ f a r g called. search rules)) in
+    placed reference_number c.args.lists.now c.args.r.0 _ c.requires facts.bound by_key
