@@ -1,3 +1,4 @@
 pub mod PlaceLemmas
 pub mod ValuesLemmas
 pub mod EndsLemmas
+pub mod SlotsLemmas

@@ -110,8 +110,9 @@ impl Slot {
         ensures room { SameRoom (slot_ends side self.old) (slot_ends side self.new) }
         ensures shape { HaveShape (slot_ends side self.new) }
     {
-        if let Some(body) = &mut self.body {
-            body.remove_end(side, r, o);
+        match &mut self.body {
+            Some(body) => body.remove_end(side, r, o),
+            None => {}
         }
     }
 }

@@ -1,10 +1,10 @@
 // All objects that ever were, by number and by name.
-ghost use Rattle.std.specs.Prelude.{◌≡◌, ◌<◌, ◌≤◌, [], ◌∷◌, ◌++◌, All, map, length, None, Some, IsSome, IsSomeAnd, IsOk, OnOk, OnErr, MatchOption};
+ghost use Rattle.std.specs.Prelude.{◌≡◌, ◌<◌, ◌≤◌, [], ◌∷◌, ◌++◌, All, map, length, None, Some, slice_get, IsSome, IsSomeAnd, IsOk, OnOk, OnErr, MatchOption};
 ghost use Rattle.std.specs.Option.{option_copied};
 ghost use Rattle.vt_slots.specs.Values.{HasPlace};
 ghost use Rattle.vt_slots.specs.Ends.{AddsEnd, DropsEnd, SameEnds, KeepsRoom, SameRoom, ReferencesRise, ObjectsRise, objects_of, capacity_of};
 ghost use Rattle.vt_slots.specs.Slots.{NumbersRise, NamesDiffer, slot_at, slot_named, body_at, ends_at, slot_value, with_body, with_slot_value, bare, OtherEndsStay};
-ghost use Rattle.vt_slots.specs.Inside.Place.{IsPlace};
+ghost use Rattle.vt_slots.specs.Inside.Place.{IsPlace, StandsAt};
 
 use crate::name::Name;
 use crate::{Body, Side, Slot};
@@ -64,16 +64,20 @@ impl Slots {
     pub fn at(&self, o: ObjId) -> Option<&Slot>
         ensures { option_copied result ≡ slot_at self.now o }
     {
-        let i = place_of(self.slots.as_slice(), o).ok()?;
-        self.slots.get(i)
+        match place_of(self.slots.as_slice(), o) {
+            Ok(i) => slot_in(self.slots.as_slice(), i),
+            Err(_) => None,
+        }
     }
 
     /// The slot with a name. `None` is of a name that no slot has.
     pub fn named(&self, name: &str) -> Option<&Slot>
         ensures { option_copied result ≡ slot_named self.now name.now }
     {
-        let i = self.names.get_index_of(name)?;
-        self.slots.get(i)
+        match self.names.get_index_of(name) {
+            Some(i) => slot_in(self.slots.as_slice(), i),
+            None => None,
+        }
     }
 
     /// Adds the slot of a new object at the end.
@@ -112,36 +116,41 @@ impl Slots {
     }
 
     /// Takes the body of an object out. `None` is of an object that isn't live.
+    #[tactic(auto, using(crate::proofs::PlaceLemmas::inside_stands))]
     pub fn take_body(&mut self, o: ObjId) -> Option<Body>
         ensures taken { result ≡ body_at self.old o }
         ensures left { self.new ≡ with_body self.old o None }
     {
-        let i = place_of(self.slots.as_slice(), o).ok()?;
-        self.slots[i].body.take()
+        match place_of(self.slots.as_slice(), o) {
+            Ok(i) => self.slots[i].body.take(),
+            Err(_) => None,
+        }
     }
 
     /// Gives an object a body. One that it has already is dropped.
+    #[tactic(auto, using(crate::proofs::PlaceLemmas::inside_stands))]
     pub fn give_body(&mut self, o: ObjId, body: Body)
         requires there { IsSome (slot_at self.old o) }
         ensures { self.new ≡ with_body self.old o (Some body) }
     {
-        if let Ok(i) = place_of(self.slots.as_slice(), o) {
-            self.slots[i].body = Some(body);
-        }
+        let i = place_there(self.slots.as_slice(), o);
+        self.slots[i].body = Some(body);
     }
 
     /// Puts a value, or none, at the place of an object's attribute. The answer is what was there.
+    #[tactic(auto, using(crate::proofs::PlaceLemmas::inside_stands))]
     pub fn put_value(&mut self, o: ObjId, a: AttrId, value: Option<Value>) -> Option<Value>
         requires there { IsSomeAnd (body_at self.old o) (λ body. HasPlace body.values a) }
         ensures taken { result ≡ slot_value self.old o a }
         ensures put { self.new ≡ with_slot_value self.old o a value }
     {
-        let i = place_of(self.slots.as_slice(), o).ok()?;
+        let i = place_there(self.slots.as_slice(), o);
         self.slots[i].put_value(a, value)
     }
 
     /// Adds an object to those at the ends of an object's links of a reference, on a side. Where it
     /// stands there already, nothing changes. It never fails where there is room.
+    #[tactic(auto, using(crate::proofs::PlaceLemmas::inside_stands))]
     pub fn insert_end(
         &mut self,
         o: ObjId,
@@ -160,14 +169,13 @@ impl Slots {
         ensures objects_rise { All (λ l. ObjectsRise l.objects) (ends_at self.new o side) }
         ensures fits { All (λ l. length l.objects ≤ l.capacity) (ends_at self.new o side) }
     {
-        match place_of(self.slots.as_slice(), o) {
-            Ok(i) => self.slots[i].insert_end(side, r, other),
-            Err(_) => Ok(()),
-        }
+        let i = place_there(self.slots.as_slice(), o);
+        self.slots[i].insert_end(side, r, other)
     }
 
     /// Takes an object out of those at the ends of an object's links of a reference, on a side. The
     /// room stays.
+    #[tactic(auto, using(crate::proofs::PlaceLemmas::inside_stands))]
     pub fn remove_end(&mut self, o: ObjId, side: Side, r: RefId, other: ObjId)
         ensures bare { map bare self.new ≡ map bare self.old }
         ensures there { DropsEnd (ends_at self.old o side) (ends_at self.new o side) r other }
@@ -177,10 +185,18 @@ impl Slots {
         ensures objects_rise { All (λ l. ObjectsRise l.objects) (ends_at self.new o side) }
         ensures fits { All (λ l. length l.objects ≤ l.capacity) (ends_at self.new o side) }
     {
-        if let Ok(i) = place_of(self.slots.as_slice(), o) {
-            self.slots[i].remove_end(side, r, other);
+        match place_of(self.slots.as_slice(), o) {
+            Ok(i) => self.slots[i].remove_end(side, r, other),
+            Err(_) => {}
         }
     }
+}
+
+// The slot at a place.
+fn slot_in(slots: &[Slot], i: usize) -> Option<&Slot>
+    ensures { option_copied result ≡ slice_get slots.now i }
+{
+    slots.get(i)
 }
 
 // Where the slot of an object stands, or else where it would.
@@ -189,4 +205,16 @@ fn place_of(slots: &[Slot], o: ObjId) -> Result<usize, usize>
     ensures { IsPlace (λ s. s.number.0) o.0 slots.now result }
 {
     slots.binary_search_by_key(&o.0, |slot| slot.number.0)
+}
+
+// Where the slot of an object stands that has one.
+fn place_there(slots: &[Slot], o: ObjId) -> usize
+    requires rises { NumbersRise slots.now }
+    requires there { IsSome (slot_at slots.now o) }
+    ensures { StandsAt (λ s. s.number.0) o.0 slots.now result }
+{
+    match place_of(slots, o) {
+        Ok(i) => i,
+        Err(_) => 0,
+    }
 }

@@ -8,4 +8,4 @@ pub returns : goal.returns
 returns c =
     let facts = c.binary_search_by_key.ensures in
     let by_key = facts.position object_number (answers_always _ _ _ (λ f a r g called. search rules)) in
-    placed object_number c.args.objects.now c.args.o.0 _ c.requires facts.bound by_key
+    placed object_number c.args.objects.now c.args.o.0 c.binary_search_by_key.result c.requires facts.bound by_key

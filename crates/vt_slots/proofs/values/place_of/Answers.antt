@@ -7,4 +7,4 @@ pub returns : goal.returns
 returns c =
     let facts = c.binary_search_by_key.ensures in
     let by_key = facts.position (λ held. held.attribute.0) (answers_always _ _ _ (λ f a r g called. search rules)) in
-    placed (λ held. held.attribute.0) c.args.places.now c.args.a.0 _ c.requires facts.bound by_key
+    placed (λ held. held.attribute.0) c.args.places.now c.args.a.0 c.binary_search_by_key.result c.requires facts.bound by_key
