@@ -1,5 +1,5 @@
 -- The slots of all objects, where the slot of one stands and where it would go.
-use Rattle.std.proofs.Common.{◌≡◌, ◌≢◌, ℕ, ◌<◌, ◌≤◌, ◌+◌, ◌==◌, ◌&&◌, ◌||◌, List, [], ◌∷◌, ◌++◌, length, map, find, get_or, set, refl, sym, ap, subst, ◌∙◌, arith, cond, Bool, true, false, true≢false, not, nat_eq, Option, Some, None, IsSome, option_map, option_and_then, option_to_list, unwrap_or, position, slice_get, All, ⊎_elim, length-append}
+use Rattle.std.proofs.Common.{◌≡◌, ◌≢◌, ◌↔◌, ℕ, ◌<◌, ◌≤◌, ◌+◌, ◌==◌, ◌&&◌, ◌||◌, List, [], ◌∷◌, ◌++◌, length, map, find, get_or, set, refl, sym, ap, subst, ◌∙◌, arith, cond, Bool, true, false, true≢false, not, nat_eq, Option, Some, None, IsSome, option_map, option_and_then, option_to_list, unwrap_or, position, slice_get, All, ⊎_elim, length-append}
 use Rattle.std.specs.declared.cmp.Ordering.TheVariants.{Less}
 use Rattle.std.specs.Ordering.{nat_cmp}
 use Rattle.std.specs.Cmp.Lexicographic.{pointwise, nat_list_eq_equiv}
@@ -105,6 +105,10 @@ slot_at_place [] o i there = absurd there
 slot_at_place (s ∷ slots) o i there =
     slice_get-get_or (s ∷ slots) i s (inside_stands slot_number o.0 (s ∷ slots) i there) ∙ sym (slot_at_stands (s ∷ slots) o i there s)
 
+-- the body of an object is that of its slot
+pub body_before : (slots now : List Slot) (o : ObjId) (i : ℕ) (s : Slot) → slots ≡ now → StandsAt slot_number o.0 slots i → s ≡ get_or slots i s → body_at now o ≡ s.body
+body_before slots now o i s is there at = ap (λ all. body_at all o) (sym is) ∙ body_at_stands slots o i there s ∙ ap (λ (t : Slot). t.body) (sym at)
+
 -- the ends of an object are those of its slot
 pub ends_before : (slots now : List Slot) (o : ObjId) (i : ℕ) (s : Slot) (side : Side) → slots ≡ now → StandsAt slot_number o.0 slots i → s ≡ get_or slots i s → ends_at now o side ≡ slot_ends side s
 ends_before slots now o i s side is there at = ap (λ all. ends_at all o side) (sym is) ∙ ends_at_stands slots o i there s side ∙ ap (slot_ends side) (sym at)
@@ -203,3 +207,21 @@ shorter_alike (a ∷ xs) (b ∷ ys) x y e =
 pub names_popped : (slots : List Slot) (s : Slot) (keys : List (List ℕ)) (last : Option (List ℕ)) → IsSome last → map (λ t. t.name) (slots ++ s ∷ []) ≡ keys ++ option_to_list last → keys ≡ map (λ t. t.name) slots
 names_popped slots s keys None there e = cc
 names_popped slots s keys (Some k) there e = shorter_alike keys (map (λ t. t.name) slots) k s.name (sym e ∙ names_pushed slots s)
+
+pub kept_popped : (old new : List Slot) (s : Slot) (names keys : List (List ℕ)) (last : Option (List ℕ))
+    → old ≡ new ++ s ∷ [] → names ≡ keys ++ option_to_list last → IsSome last ↔ (0 < length names) → AreKept old names → AreKept new keys
+kept_popped old new s names keys last fewer shorter found kept =
+    let long : length names ≡ length (map (λ t. t.name) new) + 1 = ap length (kept.2 ∙ ap (map (λ t. t.name)) fewer ∙ names_pushed new s) ∙ length-append (map (λ t. t.name) new) (s.name ∷ []) in
+    (
+      numbers_rise_popped new s (subst NumbersRise fewer kept.0),
+      names_differ_popped new s (subst NamesDiffer fewer kept.1),
+      names_popped new s keys last (found.1 (omega (arith, long))) (sym (ap (map (λ t. t.name)) fewer) ∙ sym kept.2 ∙ shorter),
+    )
+
+pub kept_pushed : (slots : List Slot) (s : Slot) (names : List (List ℕ))
+    → All (λ t. t.number.0 < s.number.0) slots → slot_named slots s.name ≡ None → AreKept slots names → AreKept (slots ++ s ∷ []) (names ++ s.name ∷ [])
+kept_pushed slots s names lower fresh kept = (
+  numbers_rise_pushed slots s kept.0 lower,
+  names_differ_pushed slots s kept.1 fresh,
+  ap (λ all. all ++ s.name ∷ []) kept.2 ∙ sym (names_pushed slots s),
+)
