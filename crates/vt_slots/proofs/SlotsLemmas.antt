@@ -211,8 +211,7 @@ names_popped slots s keys (Some k) there e = shorter_alike keys (map (λ t. t.na
 pub kept_popped : (old new : List Slot) (s : Slot) (names keys : List (List ℕ)) (last : Option (List ℕ))
     → old ≡ new ++ s ∷ [] → names ≡ keys ++ option_to_list last → IsSome last ↔ (0 < length names) → AreKept old names → AreKept new keys
 kept_popped old new s names keys last fewer shorter found kept =
-    let long : length names ≡ length (map (λ t. t.name) new) + 1 = ap length (kept.2 ∙ ap (map (λ t. t.name)) fewer ∙ names_pushed new s) ∙ length-append (map (λ t. t.name) new) (s.name ∷ []) in
-    (
+    let long : length names ≡ length (map (λ t. t.name) new) + 1 = ap length (kept.2 ∙ ap (map (λ t. t.name)) fewer ∙ names_pushed new s) ∙ length-append (map (λ t. t.name) new) (s.name ∷ []) in (
       numbers_rise_popped new s (subst NumbersRise fewer kept.0),
       names_differ_popped new s (subst NamesDiffer fewer kept.1),
       names_popped new s keys last (found.1 (omega (arith, long))) (sym (ap (map (λ t. t.name)) fewer) ∙ sym kept.2 ∙ shorter),

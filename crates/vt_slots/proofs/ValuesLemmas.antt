@@ -1,5 +1,6 @@
 -- The values of an object, where the place of an attribute stands.
-use Rattle.std.proofs.Common.{◌≡◌, ℕ, List, length, map, get_or, set, refl, true≢false, sym, ap, subst, ◌∙◌, Option, Some, None, IsSome, option_and_then}
+use Rattle.std.proofs.Common.{◌≡◌, ℕ, List, [], ◌∷◌, length, map, get_or, set, refl, true≢false, sym, ap, subst, ◌∙◌, Option, Some, None, IsSome, option_and_then}
+use Rattle.std.specs.List.Sorted.{IsStrictlySortedBy}
 use Rattle.vt_base.specs.declared.numbers.AttrId.{AttrId}
 use Rattle.vt_base.specs.declared.value.Value.{Value}
 use Rattle.vt_slots.specs.declared.values.Held.{Held}
@@ -10,6 +11,11 @@ use Rattle.vt_slots.proofs.PlaceLemmas.{find_stands, find_goes, map_stands, map_
 -- the number of a place's attribute
 abbrev pub number_of : Held → ℕ
 number_of h = h.attribute.0
+
+-- one place alone is in order
+pub rise_alone : (h : Held) → AttributesRise (h ∷ [])
+unfolding IsStrictlySortedBy
+rise_alone h = (tt, tt)
 
 -- ---- where it stands
 

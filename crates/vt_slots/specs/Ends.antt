@@ -1,5 +1,5 @@
 -- The ends of an object on one side: for each reference the objects at the other end of its links.
-use Rattle.std.specs.Prelude.{◌≡◌, ℕ, ◌≤◌, ◌≢◌, ◌==◌, not, List, [], find, filter, length, Option, option_map, unwrap_or}
+use Rattle.std.specs.Prelude.{◌≡◌, ℕ, ◌<◌, ◌≤◌, ◌≢◌, ◌==◌, not, List, [], find, filter, length, Option, option_map, unwrap_or}
 use Rattle.std.specs.List.Sorted.{IsStrictlySortedBy}
 use Rattle.std.specs.BTreeSet.{insert_key}
 use Rattle.std.specs.declared.cmp.Ordering.{Ordering}
@@ -40,6 +40,10 @@ objects_of lists r = unwrap_or (option_map (λ l. l.objects) (list_of lists r)) 
 -- how many objects are held for a reference before it needs memory
 abbrev pub capacity_of : List EndList → RefId → ℕ
 capacity_of lists r = unwrap_or (option_map (λ l. l.capacity) (list_of lists r)) 0
+
+-- one more object of the reference needs no memory
+abbrev pub HasSpace : List EndList → RefId → Type 0
+HasSpace lists r = length (objects_of lists r) < capacity_of lists r
 
 -- ---- what a change does
 

@@ -1,10 +1,11 @@
 -- What is kept of each object: its number, its name and its class for ever, its body while it lives.
-use Rattle.std.specs.Prelude.{◌≡◌, ℕ, ◌==◌, List, [], map, find, true, Option, None, option_map, option_and_then, unwrap_or, if◌then◌else◌}
+use Rattle.std.specs.Prelude.{◌≡◌, ℕ, ◌==◌, List, [], map, find, true, Option, Some, None, option_map, option_and_then, unwrap_or, if◌then◌else◌}
 use Rattle.std.specs.List.Sorted.{IsStrictlySortedBy}
 use Rattle.std.specs.declared.cmp.Ordering.{Ordering}
 use Rattle.std.specs.Ordering.{nat_cmp}
 use Rattle.vt_base.specs.declared.numbers.ObjId.{ObjId}
 use Rattle.vt_base.specs.declared.numbers.AttrId.{AttrId}
+use Rattle.vt_base.specs.declared.numbers.ClassId.{ClassId}
 use Rattle.vt_base.specs.declared.value.Value.{Value}
 use Rattle.vt_meta.specs.Declarations.{is_name, is_distinct}
 use Rattle.vt_slots.specs.Values.{value_in, with_held}
@@ -13,6 +14,10 @@ use Rattle.vt_slots.specs.declared.slot.Side.{Side}
 use Rattle.vt_slots.specs.declared.slot.Side.TheVariants.{Outgoing, Incoming}
 use Rattle.vt_slots.specs.declared.slot.Body.{Body}
 use Rattle.vt_slots.specs.declared.slot.Slot.{Slot}
+
+-- the slot of a live object
+abbrev pub live_slot : ObjId → List ℕ → ClassId → Body → Slot
+live_slot number name class body = record { number = number; name = name; class = class; body = Some body }
 
 -- slots by number
 abbrev pub slot_order : Slot → Slot → Ordering

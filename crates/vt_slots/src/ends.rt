@@ -1,7 +1,7 @@
 // The ends of one object on one side.
 ghost use Rattle.std.specs.Prelude.{◌≡◌, ◌≤◌, ◌<◌, ◌==◌, [], ◌∷◌, not, All, length, filter, IfOk, IsOk, OnOk, OnErr};
 ghost use Rattle.std.specs.BTreeSet.{insert_key};
-ghost use Rattle.vt_slots.specs.Ends.{number_order, ObjectsRise, ReferencesRise, objects_of, capacity_of, AddsEnd, DropsEnd, SameEnds, KeepsRoom, SameRoom};
+ghost use Rattle.vt_slots.specs.Ends.{number_order, ObjectsRise, ReferencesRise, objects_of, capacity_of, AddsEnd, DropsEnd, SameEnds, KeepsRoom, SameRoom, HasSpace};
 ghost use Rattle.vt_slots.specs.Inside.Place.{IsPlace};
 
 use std::alloc::Global;
@@ -150,7 +150,7 @@ impl Ends {
         ensures added { OnOk result (AddsEnd self.old self.new r o) }
         ensures unchanged { OnErr result (SameEnds self.old self.new) }
         ensures room { KeepsRoom self.old self.new }
-        ensures succeeds { length (objects_of self.old r) < capacity_of self.old r → IsOk result }
+        ensures succeeds { HasSpace self.old r → IsOk result }
         ensures references_rise { ReferencesRise self.new }
         ensures objects_rise { All (λ l. ObjectsRise l.objects) self.new }
         ensures fits { All (λ l. length l.objects ≤ l.capacity) self.new }

@@ -19,5 +19,6 @@ pub use values::{Held, Values};
 // All objects.
 pub use slot::{Body, Side, Slot};
 pub use slots::Slots;
+
 #[cfg(test)]
 mod tests;

@@ -1,7 +1,7 @@
 // One object.
-ghost use Rattle.std.specs.Prelude.{◌≡◌, ◌<◌, length, IsOk, OnOk, OnErr, IsSome, IsSomeAnd, option_map, option_and_then};
+ghost use Rattle.std.specs.Prelude.{◌≡◌, IsOk, OnOk, OnErr, IsSome, IsSomeAnd, option_map, option_and_then};
 ghost use Rattle.vt_slots.specs.Values.{HasPlace, value_in};
-ghost use Rattle.vt_slots.specs.Ends.{AddsEnd, DropsEnd, SameEnds, KeepsRoom, SameRoom, objects_of, capacity_of};
+ghost use Rattle.vt_slots.specs.Ends.{AddsEnd, DropsEnd, SameEnds, KeepsRoom, SameRoom, HasSpace};
 ghost use Rattle.vt_slots.specs.Slots.{ends_on, bare, bare_body, with_value_at};
 ghost use Rattle.vt_slots.specs.Inside.Shape.{slot_ends, HaveShape};
 
@@ -45,13 +45,14 @@ impl Body {
         }
     }
 
+    // Adds an object to those of a reference on a side. Where it stands already, nothing changes.
     fn insert_end(&mut self, side: Side, r: RefId, o: ObjId) -> Result<(), NoMemory>
         ensures bare { bare_body self.new ≡ bare_body self.old }
         ensures there { OnOk result (AddsEnd (ends_on side self.old) (ends_on side self.new) r o) }
         ensures unchanged { OnErr result (SameEnds (ends_on side self.old) (ends_on side self.new)) }
         ensures others { (t : Side) → (t ≡ side → ⊥) → ends_on t self.new ≡ ends_on t self.old }
         ensures room { KeepsRoom (ends_on side self.old) (ends_on side self.new) }
-        ensures succeeds { length (objects_of (ends_on side self.old) r) < capacity_of (ends_on side self.old) r → IsOk result }
+        ensures succeeds { HasSpace (ends_on side self.old) r → IsOk result }
         ensures shape { HaveShape (ends_on side self.new) }
     {
         match side {
@@ -60,6 +61,7 @@ impl Body {
         }
     }
 
+    // Takes an object out of those of a reference on a side, where it stands there.
     fn remove_end(&mut self, side: Side, r: RefId, o: ObjId)
         ensures bare { bare_body self.new ≡ bare_body self.old }
         ensures there { DropsEnd (ends_on side self.old) (ends_on side self.new) r o }
@@ -87,6 +89,7 @@ impl Slot {
         }
     }
 
+    // Adds an object to those of a reference on a side. Where it stands already, nothing changes.
     pub(crate) fn insert_end(&mut self, side: Side, r: RefId, o: ObjId) -> Result<(), NoMemory>
         requires live { IsSome self.old.body }
         ensures bare { bare self.new ≡ bare self.old }
@@ -94,7 +97,7 @@ impl Slot {
         ensures unchanged { OnErr result (SameEnds (slot_ends side self.old) (slot_ends side self.new)) }
         ensures others { (t : Side) → (t ≡ side → ⊥) → slot_ends t self.new ≡ slot_ends t self.old }
         ensures room { KeepsRoom (slot_ends side self.old) (slot_ends side self.new) }
-        ensures succeeds { length (objects_of (slot_ends side self.old) r) < capacity_of (slot_ends side self.old) r → IsOk result }
+        ensures succeeds { HasSpace (slot_ends side self.old) r → IsOk result }
         ensures shape { HaveShape (slot_ends side self.new) }
     {
         match &mut self.body {
@@ -103,6 +106,7 @@ impl Slot {
         }
     }
 
+    // Takes an object out of those of a reference on a side, where it stands there.
     pub(crate) fn remove_end(&mut self, side: Side, r: RefId, o: ObjId)
         ensures bare { bare self.new ≡ bare self.old }
         ensures there { DropsEnd (slot_ends side self.old) (slot_ends side self.new) r o }

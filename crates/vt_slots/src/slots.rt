@@ -2,8 +2,8 @@
 ghost use Rattle.std.specs.Prelude.{◌≡◌, ◌<◌, ◌≤◌, [], ◌∷◌, ◌++◌, All, map, length, None, Some, slice_get, IsSome, IsSomeAnd, IsOk, OnOk, OnErr, MatchOption};
 ghost use Rattle.std.specs.Option.{option_copied};
 ghost use Rattle.vt_slots.specs.Values.{HasPlace};
-ghost use Rattle.vt_slots.specs.Ends.{AddsEnd, DropsEnd, SameEnds, KeepsRoom, SameRoom, ReferencesRise, ObjectsRise, objects_of, capacity_of};
-ghost use Rattle.vt_slots.specs.Slots.{NumbersRise, NamesDiffer, slot_at, slot_named, body_at, ends_at, slot_value, with_body, with_slot_value, bare, OtherEndsStay};
+ghost use Rattle.vt_slots.specs.Ends.{AddsEnd, DropsEnd, SameEnds, KeepsRoom, SameRoom, ReferencesRise, ObjectsRise, HasSpace};
+ghost use Rattle.vt_slots.specs.Slots.{NumbersRise, NamesDiffer, live_slot, slot_at, slot_named, body_at, ends_at, slot_value, with_body, with_slot_value, bare, OtherEndsStay};
 ghost use Rattle.vt_slots.specs.Inside.Place.{IsPlace, StandsAt};
 
 use crate::name::Name;
@@ -90,7 +90,7 @@ impl Slots {
     ) -> Result<(), NoMemory>
         requires above { All (λ s. s.number.0 < number.0) self.old }
         requires fresh { slot_named self.old name ≡ None }
-        ensures added { OnOk result (self.new ≡ self.old ++ record { number = number; name = name; class = class; body = Some body } ∷ []) }
+        ensures added { OnOk result (self.new ≡ self.old ++ live_slot number name class body ∷ []) }
         ensures unchanged { OnErr result (self.new ≡ self.old) }
     {
         self.slots.reserve(1)?;
@@ -164,7 +164,7 @@ impl Slots {
         ensures unchanged { OnErr result (SameEnds (ends_at self.old o side) (ends_at self.new o side)) }
         ensures others { OtherEndsStay self.old self.new o side }
         ensures room { KeepsRoom (ends_at self.old o side) (ends_at self.new o side) }
-        ensures succeeds { length (objects_of (ends_at self.old o side) r) < capacity_of (ends_at self.old o side) r → IsOk result }
+        ensures succeeds { HasSpace (ends_at self.old o side) r → IsOk result }
         ensures references_rise { ReferencesRise (ends_at self.new o side) }
         ensures objects_rise { All (λ l. ObjectsRise l.objects) (ends_at self.new o side) }
         ensures fits { All (λ l. length l.objects ≤ l.capacity) (ends_at self.new o side) }

@@ -6,7 +6,7 @@ use Rattle.vt_slots.proofs.ends.Ends.new.Goals as goal
 
 pub invariant_of-result : goal.invariant_of-result
 invariant_of-result c = rw c.new.ensures.items (
-    ascends-none reference_order,
-    All-nil (λ (l : EndList). ObjectsRise l.objects),
-    All-nil (λ (l : EndList). length l.objects ≤ l.capacity),
+  ascends-none reference_order,
+  All-nil (λ (l : EndList). ObjectsRise l.objects),
+  All-nil (λ (l : EndList). length l.objects ≤ l.capacity),
 )

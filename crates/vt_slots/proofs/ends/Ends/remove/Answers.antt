@@ -8,8 +8,7 @@ use Rattle.vt_slots.proofs.ends.Ends.remove.Goals as goal
 pub invariant_of-self : goal.invariant_of-self
 invariant_of-self c =
     let there = subst (λ lists. StandsAt reference_number c.args.r.0 lists c.in-Ok.i) c.as_slice.ensures.value c.in-Ok.ensures in
-    let same = c.remove.ensures.reference ∙ ap (λ (l : EndList). l.reference) c.index_mut.ensures.value in
-    (
+    let same = c.remove.ensures.reference ∙ ap (λ (l : EndList). l.reference) c.index_mut.ensures.value in (
       references_rise_changed _ c.args.r c.in-Ok.i there c.remove.new.self c.index_mut.result.now same c.self.invariant.0,
       All-set (λ (l : EndList). ObjectsRise l.objects) _ c.in-Ok.i c.remove.new.self c.remove.ensures.rises c.self.invariant.1,
       All-set (λ (l : EndList). length l.objects ≤ l.capacity) _ c.in-Ok.i c.remove.new.self c.remove.ensures.fits c.self.invariant.2,
