@@ -1,12 +1,9 @@
 -- The ends of an object on a side, where the list of a reference stands and where it would go.
-use Rattle.std.proofs.Common.{◌≡◌, ◌≢◌, ℕ, ◌<◌, ◌≤◌, ◌==◌, List, [], ◌∷◌, length, map, filter, not, get_or, set, insert, remove, refl, sym, ap, subst, ◌∙◌, arith, Option, Some, None, option_map, unwrap_or, All, find, le_of_eq, ⊎_elim}
+use Rattle.std.proofs.Common.{◌≡◌, ◌≢◌, ℕ, ◌≤◌, ◌==◌, List, [], ◌∷◌, filter, not, get_or, set, insert, refl, sym, ap, subst, ◌∙◌, arith, Option, option_map, unwrap_or, All, find, le_of_eq, ⊎_elim}
 use Rattle.std.specs.BTreeSet.{insert_key}
 use Rattle.std.specs.Cmp.{nat_cmp_total}
-use Rattle.std.specs.Ordering.{nat_cmp}
-use Rattle.std.specs.List.Sorted.{IsStrictlySortedBy}
 use Rattle.std.proofs.lemmas.Cmp.{on_total}
 use Rattle.std.proofs.lemmas.Bool.{cases_eq}
-use Rattle.std.proofs.lemmas.List.Elements.{All-get_or, All-set}
 use Rattle.std.proofs.lemmas.List.Kept.{IsStrictlySortedBy-filter}
 use Rattle.std.proofs.lemmas.Map.Views.{All-insert_key}
 use Rattle.vt_base.specs.declared.numbers.ObjId.{ObjId}
@@ -14,8 +11,7 @@ use Rattle.vt_base.specs.declared.numbers.RefId.{RefId}
 use Rattle.vt_meta.proofs.OrderedLemmas.{IsStrictlySortedBy-insert_key}
 use Rattle.vt_slots.specs.Ends.{EndList, number_order, ObjectsRise, reference_order, ReferencesRise, list_of, objects_of, capacity_of, AddsEnd, DropsEnd, SameEnds, KeepsRoom, SameRoom}
 use Rattle.vt_slots.specs.Inside.Place.{StandsAt, GoesAt}
-use Rattle.vt_slots.specs.Inside.Shape.{HaveShape}
-use Rattle.vt_slots.proofs.PlaceLemmas.{find_stands, find_goes, find_set_same, find_set_other, find_insert_same, find_insert_other, insert_goes, key_stands, sorted_alike, map_set_alike, inside_stands}
+use Rattle.vt_slots.proofs.PlaceLemmas.{find_stands, find_goes, find_set_same, find_set_other, find_insert_same, find_insert_other, insert_goes, key_stands, sorted_alike, map_set_alike}
 
 -- the number of a list's reference
 abbrev pub reference_number : EndList → ℕ

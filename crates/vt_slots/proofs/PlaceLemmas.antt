@@ -1,5 +1,5 @@
 -- A list that rises by a number: where a binary search ends, and what stands after a change there.
-use Rattle.std.proofs.Common.{◌≡◌, ℕ, zero, suc, ◌+◌, ◌<◌, ◌≤◌, List, [], ◌∷◌, length, map, get_or, set, insert, remove, take, drop, refl, sym, ap, subst, ◌∙◌, cond, Bool, true, false, not, arith, eqb, eq-eqb, ne_eqb, Result, Ok, Err, Option, Some, None, find, filter}
+use Rattle.std.proofs.Common.{◌≡◌, ℕ, zero, suc, ◌+◌, ◌<◌, ◌≤◌, List, [], ◌∷◌, length, map, get_or, set, insert, remove, refl, sym, ap, subst, ◌∙◌, cond, Bool, false, not, arith, eqb, eq-eqb, ne_eqb, Result, Ok, Err, Some, None, find, filter}
 use Rattle.std.specs.Ordering.{nat_cmp, ordering_index, ordering_reverse, match_ordering, is_lt, MatchOrdering}
 use Rattle.std.specs.declared.cmp.Ordering.{Ordering}
 use Rattle.std.specs.declared.cmp.Ordering.TheVariants.{Less, Equal, Greater}

@@ -1,7 +1,6 @@
 -- The slots of all objects, where the slot of one stands and where it would go.
-use Rattle.std.proofs.Common.{◌≡◌, ◌≢◌, ◌↔◌, ℕ, ◌<◌, ◌≤◌, ◌+◌, ◌==◌, ◌&&◌, ◌||◌, List, [], ◌∷◌, ◌++◌, length, map, find, get_or, set, refl, sym, ap, subst, ◌∙◌, arith, cond, Bool, true, false, true≢false, not, nat_eq, Option, Some, None, IsSome, option_map, option_and_then, option_to_list, unwrap_or, position, slice_get, All, ⊎_elim, length-append}
+use Rattle.std.proofs.Common.{◌≡◌, ◌≢◌, ◌↔◌, ℕ, ◌<◌, ◌≤◌, ◌+◌, ◌==◌, ◌&&◌, ◌||◌, List, [], ◌∷◌, ◌++◌, length, map, find, get_or, set, refl, sym, ap, subst, ◌∙◌, arith, cond, Bool, true, false, not, nat_eq, Option, Some, None, IsSome, option_map, option_and_then, option_to_list, unwrap_or, position, slice_get, All, ⊎_elim, length-append}
 use Rattle.std.specs.declared.cmp.Ordering.TheVariants.{Less}
-use Rattle.std.specs.Ordering.{nat_cmp}
 use Rattle.std.specs.Cmp.Lexicographic.{pointwise, nat_list_eq_equiv}
 use Rattle.std.specs.List.{AllByRecursion, list_any}
 use Rattle.std.specs.List.Sorted.{IsStrictlySortedBy}
@@ -17,8 +16,7 @@ use Rattle.vt_meta.proofs.OrderedLemmas.{IsStrictlySortedBy-append}
 use Rattle.vt_meta.proofs.DistinctLemmas.{is_distinct-push}
 use Rattle.vt_meta.proofs.PositionLemmas.{position-map, position_agree, find_position}
 use Rattle.vt_slots.specs.Ends.{EndList, ObjectsRise, reference_order}
-use Rattle.vt_slots.specs.Slots.{slot_order, NumbersRise, NamesDiffer, slot_at, slot_named, body_at, ends_on, ends_at, slot_value, with_body, with_value_at, with_slot_value, bare, OtherEndsStay}
-use Rattle.vt_slots.specs.Values.{value_in}
+use Rattle.vt_slots.specs.Slots.{slot_order, NumbersRise, NamesDiffer, slot_at, slot_named, body_at, ends_on, ends_at, with_body, with_value_at, with_slot_value, bare, OtherEndsStay}
 use Rattle.vt_slots.specs.Inside.Place.{StandsAt, GoesAt}
 use Rattle.vt_slots.specs.Inside.Shape.{slot_ends, HaveShape}
 use Rattle.vt_slots.specs.declared.slot.Side.{Side}
@@ -72,9 +70,6 @@ module _ (slots : List Slot) (o : ObjId) (i : ℕ) where
 
     pub ends_at_stands : (side : Side) → ends_at slots o side ≡ slot_ends side (get_or slots i d)
     ends_at_stands side = ap (ends_found side) slot_at_stands
-
-    pub slot_value_stands : (a : AttrId) → slot_value slots o a ≡ option_and_then (λ (body : Body). value_in body.values a) (get_or slots i d).body
-    slot_value_stands a = ap (option_and_then (λ (body : Body). value_in body.values a)) body_at_stands
 
     pub with_body_stands : (body : Option Body) → with_body slots o body ≡ set slots i (record (get_or slots i d) { body = body })
     with_body_stands body = map_stands slot_number o.0 (λ s. record s { body = body }) slots i there d

@@ -1,12 +1,12 @@
 -- The values of an object, where the place of an attribute stands.
-use Rattle.std.proofs.Common.{◌≡◌, ℕ, List, [], ◌∷◌, length, map, get_or, set, refl, true≢false, sym, ap, subst, ◌∙◌, Option, Some, None, IsSome, option_and_then}
+use Rattle.std.proofs.Common.{◌≡◌, ℕ, List, [], ◌∷◌, get_or, set, refl, true≢false, sym, ap, subst, Option, IsSome, option_and_then}
 use Rattle.std.specs.List.Sorted.{IsStrictlySortedBy}
 use Rattle.vt_base.specs.declared.numbers.AttrId.{AttrId}
 use Rattle.vt_base.specs.declared.value.Value.{Value}
 use Rattle.vt_slots.specs.declared.values.Held.{Held}
 use Rattle.vt_slots.specs.Values.{AttributesRise, HasPlace, value_in, with_held}
 use Rattle.vt_slots.specs.Inside.Place.{StandsAt, GoesAt}
-use Rattle.vt_slots.proofs.PlaceLemmas.{find_stands, find_goes, map_stands, map_goes, key_stands, sorted_alike, map_set_alike}
+use Rattle.vt_slots.proofs.PlaceLemmas.{find_stands, find_goes, map_stands, sorted_alike, map_set_alike}
 
 -- the number of a place's attribute
 abbrev pub number_of : Held → ℕ

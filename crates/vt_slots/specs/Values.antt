@@ -1,5 +1,5 @@
 -- The values of an object: a place for each attribute that its class has, with a value or without.
-use Rattle.std.specs.Prelude.{ℕ, ◌==◌, List, map, find, IsSome, Option, option_and_then, if◌then◌else◌}
+use Rattle.std.specs.Prelude.{◌==◌, List, map, find, IsSome, Option, option_and_then, if◌then◌else◌}
 use Rattle.std.specs.List.Sorted.{IsStrictlySortedBy}
 use Rattle.std.specs.declared.cmp.Ordering.{Ordering}
 use Rattle.std.specs.Ordering.{nat_cmp}

@@ -49,8 +49,8 @@ impl Values {
         self.places.as_slice()
     }
 
-    #[tactic(auto, using(crate::proofs::PlaceLemmas::inside_stands, crate::proofs::PlaceLemmas::find_goes))]
     /// The value of an attribute. `None` is of one without a value, and of one without a place.
+    #[tactic(auto, using(crate::proofs::PlaceLemmas::inside_stands, crate::proofs::PlaceLemmas::find_goes))]
     pub fn get(&self, a: AttrId) -> Option<&Value>
         ensures { option_copied result ≡ value_in self.now a }
     {

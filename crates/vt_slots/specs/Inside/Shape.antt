@@ -1,5 +1,5 @@
 -- The ends of a slot, and the shape that all ends have.
-use Rattle.std.specs.Prelude.{◌≡◌, ◌≤◌, List, [], All, length, option_map, unwrap_or}
+use Rattle.std.specs.Prelude.{◌≤◌, List, [], All, length, option_map, unwrap_or}
 use Rattle.vt_slots.specs.Ends.{EndList, ObjectsRise, ReferencesRise}
 use Rattle.vt_slots.specs.Slots.{ends_on}
 use Rattle.vt_slots.specs.declared.slot.Side.{Side}

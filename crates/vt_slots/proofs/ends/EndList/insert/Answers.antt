@@ -1,4 +1,4 @@
-use Rattle.std.proofs.Common.{◌≡◌, refl, sym, ap, subst, ◌∙◌}
+use Rattle.std.proofs.Common.{refl, sym, ap, subst, ◌∙◌}
 use Rattle.std.specs.BTreeSet.{insert_key}
 use Rattle.vt_slots.specs.Ends.{number_order, ObjectsRise}
 use Rattle.vt_slots.specs.Inside.Place.{StandsAt, GoesAt}

@@ -1,5 +1,5 @@
-use Rattle.std.proofs.Common.{◌==◌, not, filter, refl, sym, ap, subst, ◌∙◌}
-use Rattle.vt_slots.specs.Ends.{number_order, ObjectsRise}
+use Rattle.std.proofs.Common.{◌==◌, not, filter, sym, ap, subst, ◌∙◌}
+use Rattle.vt_slots.specs.Ends.{ObjectsRise}
 use Rattle.vt_slots.specs.Inside.Place.{StandsAt, GoesAt}
 use Rattle.vt_slots.proofs.PlaceLemmas.{filter_stands, filter_goes}
 use Rattle.vt_slots.proofs.EndsLemmas.{object_number, rise_without_object}

@@ -1,9 +1,9 @@
-use Rattle.std.proofs.Common.{◌≡◌, ◌≤◌, ◌<◌, [], ◌∷◌, length, get_or, arith, sym, ap, subst, ◌∙◌}
+use Rattle.std.proofs.Common.{◌≡◌, ◌≤◌, ◌<◌, [], length, get_or, arith, sym, ap, subst, ◌∙◌}
 use Rattle.std.specs.BTreeSet.{insert_key}
 use Rattle.std.proofs.lemmas.List.Elements.{All-set}
 use Rattle.std.proofs.lemmas.Result.{on_ok_weaker, on_err_weaker}
 use Rattle.vt_base.proofs.RowsLemmas.{ascends-none}
-use Rattle.vt_slots.specs.Ends.{EndList, number_order, ObjectsRise, ReferencesRise, objects_of, capacity_of, AddsEnd, KeepsRoom}
+use Rattle.vt_slots.specs.Ends.{EndList, number_order, ObjectsRise, objects_of, capacity_of}
 use Rattle.vt_slots.specs.Inside.Place.{StandsAt, GoesAt}
 use Rattle.vt_slots.proofs.EndsLemmas.{reference_number, rise_with_object, objects_stand, capacity_stands, references_rise_changed, AddsEnd_changed, SameEnds_changed, KeepsRoom_changed, no_capacity, references_rise_put, AddsEnd_put, KeepsRoom_put, All_put}
 use Rattle.vt_slots.proofs.ends.Ends.insert.Goals as goal

@@ -1,6 +1,6 @@
 use Rattle.std.proofs.Common.{◌≡◌, ◌≤◌, length, get_or, sym, ap, subst, ◌∙◌}
 use Rattle.vt_base.proofs.RowsLemmas.{ascends-none}
-use Rattle.vt_slots.specs.Ends.{EndList, number_order, objects_of, capacity_of}
+use Rattle.vt_slots.specs.Ends.{EndList, number_order}
 use Rattle.vt_slots.specs.Inside.Place.{StandsAt, GoesAt}
 use Rattle.vt_slots.proofs.EndsLemmas.{reference_number, objects_stand, capacity_stands, no_objects}
 use Rattle.vt_slots.proofs.ends.Ends.objects.Goals as goal

@@ -1,6 +1,6 @@
-use Rattle.std.proofs.Common.{◌≤◌, ◌==◌, not, filter, length, sym, ap, subst, ◌∙◌}
+use Rattle.std.proofs.Common.{◌≤◌, ◌==◌, not, filter, length, ap, subst, ◌∙◌}
 use Rattle.std.proofs.lemmas.List.Elements.{All-set}
-use Rattle.vt_slots.specs.Ends.{EndList, ObjectsRise, DropsEnd}
+use Rattle.vt_slots.specs.Ends.{EndList, ObjectsRise}
 use Rattle.vt_slots.specs.Inside.Place.{StandsAt, GoesAt}
 use Rattle.vt_slots.proofs.EndsLemmas.{reference_number, references_rise_changed, DropsEnd_changed, DropsEnd_absent, SameRoom_changed}
 use Rattle.vt_slots.proofs.ends.Ends.remove.Goals as goal

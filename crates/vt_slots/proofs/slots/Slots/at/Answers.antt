@@ -1,6 +1,4 @@
-use Rattle.std.proofs.Common.{◌≡◌, slice_get, sym, ap, subst, ◌∙◌, Some, arith}
-use Rattle.std.proofs.lemmas.Option.{slice_get-get_or}
-use Rattle.vt_slots.specs.Slots.{slot_at}
+use Rattle.std.proofs.Common.{slice_get, sym, ap, subst, ◌∙◌}
 use Rattle.vt_slots.specs.Inside.Place.{StandsAt, GoesAt}
 use Rattle.vt_slots.proofs.SlotsLemmas.{slot_number, slot_at_place, slot_at_goes}
 use Rattle.vt_slots.proofs.slots.Slots.at.Goals as goal

@@ -1,4 +1,4 @@
-use Rattle.std.proofs.Common.{◌≡◌, map, slice_get, nat_eq, position, option_and_then, sym, ap, subst, ◌∙◌, Some, None, arith}
+use Rattle.std.proofs.Common.{◌≡◌, map, slice_get, nat_eq, position, option_and_then, sym, ap, ◌∙◌, Some, None}
 use Rattle.std.specs.Cmp.Lexicographic.{pointwise}
 use Rattle.vt_slots.proofs.SlotsLemmas.{named_at_place}
 use Rattle.vt_slots.proofs.slots.Slots.named.Goals as goal

@@ -1,6 +1,3 @@
-use Rattle.std.proofs.Common.{◌≡◌, ◌<◌, ◌++◌, ◌∷◌, [], length, map, Some, sym, ap, subst, ◌∙◌, arith}
-use Rattle.vt_slots.specs.Slots.{NumbersRise, NamesDiffer}
-use Rattle.vt_slots.specs.declared.slot.Slot.{Slot}
 use Rattle.vt_slots.proofs.SlotsLemmas.{kept_popped}
 use Rattle.vt_slots.proofs.slots.Slots.pop.Goals as goal
 

@@ -1,11 +1,10 @@
 use Rattle.std.proofs.Common.{IsSomeAnd, option_map, option_and_then, set, sym, ap, subst, ◌∙◌}
-use Rattle.vt_base.specs.declared.numbers.AttrId.{AttrId}
 use Rattle.vt_slots.specs.Values.{HasPlace, value_in}
-use Rattle.vt_slots.specs.Slots.{body_at, slot_value, with_value_at, with_slot_value}
+use Rattle.vt_slots.specs.Slots.{with_value_at, with_slot_value}
 use Rattle.vt_slots.specs.Inside.Place.{StandsAt}
 use Rattle.vt_slots.specs.declared.slot.Body.{Body}
 use Rattle.vt_slots.specs.declared.slot.Slot.{Slot}
-use Rattle.vt_slots.proofs.SlotsLemmas.{slot_number, kept_changed, body_before, slot_value_stands, with_slot_value_stands}
+use Rattle.vt_slots.proofs.SlotsLemmas.{slot_number, kept_changed, body_before, with_slot_value_stands}
 use Rattle.vt_slots.proofs.slots.Slots.put_value.Goals as goal
 
 pub put_value-requires : goal.put_value-requires

@@ -1,6 +1,6 @@
-use Rattle.std.proofs.Common.{◌≡◌, ◌<◌, length, sym, ap, subst, ◌∙◌, get_or, set}
+use Rattle.std.proofs.Common.{sym, ap, subst, ◌∙◌, get_or, set}
 use Rattle.vt_slots.specs.Values.{AttributesRise, HasPlace, value_in, with_held}
-use Rattle.vt_slots.specs.Inside.Place.{StandsAt, GoesAt}
+use Rattle.vt_slots.specs.Inside.Place.{StandsAt}
 use Rattle.vt_slots.proofs.ValuesLemmas.{number_of, value_in_stands, with_held_stands, rise_with_value, no_place}
 use Rattle.vt_slots.proofs.values.Values.put.Goals as goal
 
