@@ -1,0 +1,37 @@
+use Rattle.std.proofs.lemmas.Result.{on_ok_weaker, on_err_weaker}
+use Rattle.vt_slots.specs.declared.slot.Side.TheVariants.{Outgoing, Incoming}
+use Rattle.vt_graph.proofs.Linked.Bare.{ends_rise, indexed_same, listings_same}
+use Rattle.vt_graph.proofs.Linked.Held.{live_body, room_there, model_added, model_stays, places_keep}
+use Rattle.vt_graph.proofs.graph.Graph.add_link.Goals as goal
+
+pub add_ends-requires-clause-source : goal.add_ends-requires-clause-source
+add_ends-requires-clause-source c = live_body _ _ _ _ c.self.view_is c.self.invariant.0 c.args.link.source c.requires.source
+
+pub add_ends-requires-clause-target : goal.add_ends-requires-clause-target
+add_ends-requires-clause-target c = live_body _ _ _ _ c.self.view_is c.self.invariant.0 c.args.link.target c.requires.target
+
+pub add_ends-requires-clause-rise : goal.add_ends-requires-clause-rise
+add_ends-requires-clause-rise c = ends_rise _ _ _ c.self.invariant.0
+
+pub invariant_of-self : goal.invariant_of-self
+invariant_of-self c = (
+  indexed_same _ _ c.add_ends.ensures.bare _ _ c.self.invariant.0 c.add_ends.ensures.rise c.add_ends.ensures.fit c.add_ends.ensures.two_ended,
+  c.self.invariant.1,
+  listings_same _ _ c.add_ends.ensures.bare _ _ c.self.invariant.2,
+)
+
+pub returns-clause-added : goal.returns-clause-added
+returns-clause-added c = on_ok_weaker c.add_ends.result
+    (λ adds. model_added _ _ _ _ _ c.self.view_is c.self.invariant.0 c.add_ends.ensures.bare c.add_ends.ensures.rise c.args.link adds) c.add_ends.ensures.added
+
+pub returns-clause-unchanged : goal.returns-clause-unchanged
+returns-clause-unchanged c = on_err_weaker c.add_ends.result
+    (λ stay. model_stays _ _ _ _ _ c.self.view_is c.self.invariant.0 c.add_ends.ensures.bare c.add_ends.ensures.rise stay) c.add_ends.ensures.unchanged
+
+pub returns-clause-room : goal.returns-clause-room
+returns-clause-room c = places_keep _ _ _ _ _ c.self.view_is c.self.invariant.0 c.add_ends.ensures.bare c.add_ends.ensures.rise c.add_ends.ensures.room
+
+pub returns-clause-succeeds : goal.returns-clause-succeeds
+returns-clause-succeeds c source target = c.add_ends.ensures.succeeds
+    (room_there _ _ _ _ c.self.view_is c.self.invariant.0 c.args.link.source Outgoing c.args.link.reference source)
+    (room_there _ _ _ _ c.self.view_is c.self.invariant.0 c.args.link.target Incoming c.args.link.reference target)

@@ -1,0 +1,10 @@
+use Rattle.std.proofs.Common.{◌≡◌, ◌+◌, ◌++◌, drop, length}
+use Rattle.vt_graph.specs.Inside.Rowed.{value_rows}
+use Rattle.vt_graph.proofs.rows.value_rows.Given as goal
+
+-- what is out, and what the rest gives, is what the whole gives; each row ticked once
+abbrev pub invariant-loop-o : goal.invariant-loop-o
+invariant-loop-o g l = record {
+  out : l.rows.items ++ value_rows l.slots l.a (drop l.o-index l.listing) ≡ value_rows l.slots l.a l.listing;
+  ticks : l.steps ≡ l.fn.steps + length l.rows.items;
+}

@@ -1,0 +1,159 @@
+// Links, at both ends of each.
+ghost use Rattle.std.specs.Prelude.{◌≡◌, ◌↔◌, not, All, Contains, filter, map, option_map, IsSome, IsTrue, IsOk, OnOk, OnErr};
+ghost use Rattle.std.specs.BTreeSet.{insert_key};
+ghost use Rattle.std.specs.Option.{option_copied};
+ghost use Rattle.vt_meta.specs.Linking.{link_order, is_link};
+ghost use Rattle.vt_slots.specs.Ends.{ReferencesRise, ObjectsRise, objects_of};
+ghost use Rattle.vt_slots.specs.Slots.{body_at, ends_on, ends_at, bare};
+ghost use Rattle.vt_slots.specs.declared.slot.Side.TheVariants.{Outgoing, Incoming};
+ghost use Rattle.vt_graph.specs.Asked.{live_at, others_at};
+ghost use Rattle.vt_graph.specs.Room.{KeepsRoom, HasRoomFor};
+ghost use Rattle.vt_graph.specs.Inside.Indexed.{IsTwoEnded};
+ghost use Rattle.vt_graph.specs.Inside.Ended.{AllEndsRise, AllEndsFit, AddsLink, DropsLink, SameObjects, AllKeepRoom, HasRoomAt};
+
+use crate::graph::Graph;
+use vt_base::{NoMemory, ObjId, RefId};
+use vt_meta::Link;
+use vt_slots::{EndList, Ends, Side, Slots};
+
+impl Graph {
+    /// The objects at the other ends of an object's links of a reference, in rising order. None of
+    /// one that isn't live.
+    pub fn others(&self, o: ObjId, side: Side, r: RefId) -> &[ObjId]
+        ensures value { result.now ≡ others_at self.now.model o side r }
+        ensures rises { ObjectsRise result.now }
+    {
+        match ends_of(&self.slots, o, side) {
+            Some(ends) => ends.objects(r),
+            None => &[],
+        }
+    }
+
+    /// The ends of an object's links on a side, a list for each reference.
+    pub fn ends(&self, o: ObjId, side: Side) -> &[EndList]
+        ensures objects { (r : RefId) → objects_of result.now r ≡ others_at self.now.model o side r }
+        ensures references_rise { ReferencesRise result.now }
+        ensures objects_rise { All (λ l. ObjectsRise l.objects) result.now }
+    {
+        match ends_of(&self.slots, o, side) {
+            Some(ends) => ends.as_slice(),
+            None => &[],
+        }
+    }
+
+    /// Adds a link. Where it stands already, nothing changes. It never fails where both its ends
+    /// have room.
+    pub fn add_link(&mut self, link: Link) -> Result<(), NoMemory>
+        requires source { IsSome (live_at self.old.model link.source) }
+        requires target { IsSome (live_at self.old.model link.target) }
+        ensures meta { self.new.meta ≡ self.old.meta }
+        ensures added { OnOk result (self.new.model ≡ record self.old.model { links = insert_key link_order self.old.model.links link }) }
+        ensures unchanged { OnErr result (self.new.model ≡ self.old.model) }
+        ensures room { KeepsRoom self.old.places self.new.places }
+        ensures succeeds { HasRoomFor self.old link.source Outgoing link.reference → HasRoomFor self.old link.target Incoming link.reference → IsOk result }
+    {
+        add_ends(&mut self.slots, link)
+    }
+
+    /// Drops a link, where it stands. The room at its ends stays.
+    pub fn drop_link(&mut self, link: Link)
+        ensures meta { self.new.meta ≡ self.old.meta }
+        ensures dropped { self.new.model ≡ record self.old.model { links = filter (λ l. not (is_link link l)) self.old.model.links } }
+        ensures room { KeepsRoom self.old.places self.new.places }
+    {
+        drop_ends(&mut self.slots, link);
+    }
+}
+
+// The ends of an object on a side. `None` is of one that isn't live.
+fn ends_of(slots: &Slots, o: ObjId, side: Side) -> Option<&Ends>
+    ensures { option_copied result ≡ option_map (ends_on side) (body_at slots.now o) }
+{
+    match slots.at(o) {
+        Some(slot) => match &slot.body {
+            Some(body) => Some(body.ends(side)),
+            None => None,
+        },
+        None => None,
+    }
+}
+
+// Whether the link stands at its source.
+fn is_listed(slots: &Slots, link: Link) -> bool
+    ensures { IsTrue result ↔ Contains (objects_of (ends_at slots.now link.source Outgoing) link.reference) link.target }
+{
+    match ends_of(slots, link.source, Side::Outgoing) {
+        Some(ends) => is_among(ends.objects(link.reference), link.target),
+        None => false,
+    }
+}
+
+// Whether an object is one of those that rise.
+fn is_among(objects: &[ObjId], o: ObjId) -> bool
+    requires { ObjectsRise objects.now }
+    ensures { IsTrue result ↔ Contains objects.now o }
+{
+    objects.binary_search_by_key(&o.0, |p| p.0).is_ok()
+}
+
+// Adds a link at both its ends. Where it stands already, nothing changes.
+fn add_ends(slots: &mut Slots, link: Link) -> Result<(), NoMemory>
+    requires source { IsSome (body_at slots.old link.source) }
+    requires target { IsSome (body_at slots.old link.target) }
+    requires rise { AllEndsRise slots.old }
+    requires fit { AllEndsFit slots.old }
+    requires two_ended { IsTwoEnded slots.old }
+    ensures bare { map bare slots.new ≡ map bare slots.old }
+    ensures added { OnOk result (AddsLink slots.old slots.new link) }
+    ensures unchanged { OnErr result (SameObjects slots.old slots.new) }
+    ensures room { AllKeepRoom slots.old slots.new }
+    ensures rise { AllEndsRise slots.new }
+    ensures fit { AllEndsFit slots.new }
+    ensures two_ended { IsTwoEnded slots.new }
+    ensures succeeds { HasRoomAt slots.old link.source Outgoing link.reference → HasRoomAt slots.old link.target Incoming link.reference → IsOk result }
+{
+    if is_listed(slots, link) {
+        return Ok(());
+    }
+    add_new_ends(slots, link)
+}
+
+// Adds a link at both its ends, where it doesn't stand. Where the second end can't be added, the
+// first is taken back.
+fn add_new_ends(slots: &mut Slots, link: Link) -> Result<(), NoMemory>
+    requires source { IsSome (body_at slots.old link.source) }
+    requires target { IsSome (body_at slots.old link.target) }
+    requires rise { AllEndsRise slots.old }
+    requires fit { AllEndsFit slots.old }
+    requires fresh { Contains (objects_of (ends_at slots.old link.source Outgoing) link.reference) link.target → ⊥ }
+    ensures bare { map bare slots.new ≡ map bare slots.old }
+    ensures added { OnOk result (AddsLink slots.old slots.new link) }
+    ensures unchanged { OnErr result (SameObjects slots.old slots.new) }
+    ensures room { AllKeepRoom slots.old slots.new }
+    ensures rise { AllEndsRise slots.new }
+    ensures fit { AllEndsFit slots.new }
+    ensures succeeds { HasRoomAt slots.old link.source Outgoing link.reference → HasRoomAt slots.old link.target Incoming link.reference → IsOk result }
+{
+    slots.insert_end(link.source, Side::Outgoing, link.reference, link.target)?;
+    match slots.insert_end(link.target, Side::Incoming, link.reference, link.source) {
+        Ok(()) => Ok(()),
+        Err(error) => {
+            slots.remove_end(link.source, Side::Outgoing, link.reference, link.target);
+            Err(error)
+        }
+    }
+}
+
+// Drops a link from both its ends.
+fn drop_ends(slots: &mut Slots, link: Link)
+    requires rise { AllEndsRise slots.old }
+    requires fit { AllEndsFit slots.old }
+    ensures bare { map bare slots.new ≡ map bare slots.old }
+    ensures dropped { DropsLink slots.old slots.new link }
+    ensures room { AllKeepRoom slots.old slots.new }
+    ensures rise { AllEndsRise slots.new }
+    ensures fit { AllEndsFit slots.new }
+{
+    slots.remove_end(link.source, Side::Outgoing, link.reference, link.target);
+    slots.remove_end(link.target, Side::Incoming, link.reference, link.source);
+}
