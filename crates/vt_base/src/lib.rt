@@ -20,8 +20,9 @@ mod aggregate;
 mod laws;
 mod rows;
 mod tuple;
-// What queries ask a model for.
+// What queries ask a model for, and how it changed.
 mod base;
+mod delta;
 // Printing.
 mod names;
 mod writing;
@@ -45,8 +46,9 @@ pub use laws::{
 };
 pub use rows::Rows;
 pub use tuple::Tuple;
-// What queries ask a model for.
+// What queries ask a model for, and how it changed.
 pub use base::Base;
+pub use delta::{BaseDelta, Delta};
 // Printing.
 pub use names::Names;
 pub use writing::{write_tuple, write_value};
