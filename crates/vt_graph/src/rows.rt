@@ -1,7 +1,9 @@
 // A graph as queries see it: the rows of its classes, attributes and references.
-ghost use Rattle.std.specs.Prelude.{◌≡◌, ◌+◌, ◌≤◌, ◌∷◌, ◌++◌, [], IfOk, OnOk, length, map, slice_get, is_some};
+ghost use Rattle.std.specs.Prelude.{◌≡◌, ◌+◌, ◌<◌, ◌≤◌, ◌∷◌, ◌++◌, [], All, IfOk, OnOk, length, map, slice_get, is_some};
 ghost use Rattle.std.specs.Option.{option_copied};
 ghost use Rattle.vt_base.specs.declared.value.Value.TheVariants.{Obj};
+ghost use Rattle.vt_meta.specs.Base.{class_rows as rows_of_class, attribute_rows as rows_of_attribute, reference_rows as rows_of_reference};
+ghost use Rattle.vt_meta.specs.Fits.{FitsReference};
 ghost use Rattle.vt_slots.specs.Slots.{body_at, slot_value};
 ghost use Rattle.vt_graph.specs.Inside.Rowed.{listed, live_rows, value_rows, targets_in, target_rows, link_rows};
 
@@ -9,9 +11,7 @@ use crate::Graph;
 use crate::values::value_of;
 use std::alloc::Global;
 use std::sync::ledger::Ledger;
-use vt_base::{
-    AttrId, Base, ClassId, List, NoMemory, ObjId, Plain, RefId, Rows, Steps, Tuple, Value,
-};
+use vt_base::{AttrId, ClassId, List, NoMemory, ObjId, Plain, RefId, Rows, Steps, Tuple, Value};
 use vt_slots::{Slot, Slots};
 
 // ---- what a slot tells
@@ -25,11 +25,14 @@ fn is_live(slots: &Slots, o: ObjId) -> bool
     }
 }
 
-fn targets_of(slot: &Slot, r: RefId) -> &[ObjId]
-    ensures { result.now ≡ targets_in r slot.now.body }
+fn targets_of(slots: &Slots, o: ObjId, r: RefId) -> &[ObjId]
+    ensures { result.now ≡ targets_in r (body_at slots.now o) }
 {
-    match &slot.body {
-        Some(body) => body.outgoing.objects(r),
+    match slots.at(o) {
+        Some(slot) => match &slot.body {
+            Some(body) => body.outgoing.objects(r),
+            None => &[],
+        },
         None => &[],
     }
 }
@@ -149,32 +152,59 @@ fn add_targets<L: Ledger>(
 
 fn link_rows<L: Ledger>(
     alloc: Global,
-    slots: &[Slot],
+    slots: &Slots,
     r: RefId,
+    listing: &[ObjId],
     steps: &mut Steps<L>,
 ) -> Result<Vec<Tuple>, NoMemory>
-    ensures value { IfOk result (λ rows. rows.items ≡ link_rows r slots.now) }
+    ensures value { IfOk result (λ rows. rows.items ≡ link_rows slots.now r listing.now) }
     ensures ticks { IfOk result (λ rows. steps.new ≡ steps.old + length rows.items) }
-    ensures bound { steps.new ≤ steps.old + length (link_rows r slots.now) }
+    ensures bound { steps.new ≤ steps.old + length (link_rows slots.now r listing.now) }
 {
     let mut rows = Vec::new(alloc);
-    for slot in slots {
-        add_targets(alloc, &mut rows, slot.number, targets_of(slot, r), steps)?;
+    for o in listing {
+        add_targets(alloc, &mut rows, *o, targets_of(slots, *o, r), steps)?;
     }
     Ok(rows)
 }
 
-impl Base for Graph {
-    ghost use Rattle.vt_meta.specs.Base.{base_of};
+// The rows of a reference of a class, over the listing of the class.
+fn reference_rows<L: Ledger>(
+    alloc: Global,
+    slots: &Slots,
+    listings: &[List<ObjId>],
+    c: ClassId,
+    r: RefId,
+    steps: &mut Steps<L>,
+) -> Result<Vec<Tuple>, NoMemory>
+    ensures value { IfOk result (λ rows. rows.items ≡ link_rows slots.now r (listed slots.now listings.now c)) }
+    ensures ticks { IfOk result (λ rows. steps.new ≡ steps.old + length rows.items) }
+    ensures bound { steps.new ≤ steps.old + length (link_rows slots.now r (listed slots.now listings.now c)) }
+{
+    match listing_of(listings, c) {
+        Some(listing) => link_rows(alloc, slots, r, listing, steps),
+        None => {
+            let numbers = all_numbers(alloc, slots.as_slice())?;
+            link_rows(alloc, slots, r, numbers.as_slice(), steps)
+        }
+    }
+}
 
-    ghost rows = { λ g. base_of g.meta g.model };
+// ---- what is answered
 
-    fn class_rows<L: Ledger>(
+impl Graph {
+    /// A row for each object of a class and of the classes below it. Each row ticks once.
+    pub fn class_rows<L: Ledger>(
         &self,
         alloc: Global,
         c: ClassId,
         steps: &mut Steps<L>,
-    ) -> Result<Rows, NoMemory> {
+    ) -> Result<Rows, NoMemory>
+        requires there { c.0 < length self.now.meta.classes }
+        ensures value { IfOk result (λ found. found.items ≡ rows_of_class self.now.meta self.now.model c) }
+        ensures ticks { IfOk result (λ found. steps.new ≡ steps.old + length found.items) }
+        ensures bound { steps.new ≤ steps.old + length (rows_of_class self.now.meta self.now.model c) }
+    {
         match listing_of(self.listings.as_slice(), c) {
             Some(listing) => {
                 let rows = live_rows(alloc, &self.slots, listing, steps)?;
@@ -184,22 +214,18 @@ impl Base for Graph {
         }
     }
 
-    fn ref_rows<L: Ledger>(
-        &self,
-        alloc: Global,
-        r: RefId,
-        steps: &mut Steps<L>,
-    ) -> Result<Rows, NoMemory> {
-        let rows = link_rows(alloc, self.slots.as_slice(), r, steps)?;
-        Ok(Rows::from_ascending(rows))
-    }
-
-    fn attr_rows<L: Ledger>(
+    /// A row for each object with the value that it has for an attribute. Each row ticks once.
+    pub fn attr_rows<L: Ledger>(
         &self,
         alloc: Global,
         a: AttrId,
         steps: &mut Steps<L>,
-    ) -> Result<Rows, NoMemory> {
+    ) -> Result<Rows, NoMemory>
+        requires there { a.0 < length self.now.meta.attributes }
+        ensures value { IfOk result (λ found. found.items ≡ rows_of_attribute self.now.model a) }
+        ensures ticks { IfOk result (λ found. steps.new ≡ steps.old + length found.items) }
+        ensures bound { steps.new ≤ steps.old + length (rows_of_attribute self.now.model a) }
+    {
         match self.meta.attribute(a) {
             Some(info) => {
                 let rows = attribute_rows(
@@ -208,6 +234,36 @@ impl Base for Graph {
                     self.listings.as_slice(),
                     info.class,
                     a,
+                    steps,
+                )?;
+                Ok(Rows::from_ascending(rows))
+            }
+            None => Ok(Rows::new(alloc)),
+        }
+    }
+
+    /// A row for each source with each of its targets for a reference, where each link fits its
+    /// reference. Each row ticks once.
+    pub fn ref_rows<L: Ledger>(
+        &self,
+        alloc: Global,
+        r: RefId,
+        steps: &mut Steps<L>,
+    ) -> Result<Rows, NoMemory>
+        requires there { r.0 < length self.now.meta.references }
+        requires fit { All (FitsReference self.now.meta self.now.model.live) self.now.model.links }
+        ensures value { IfOk result (λ found. found.items ≡ rows_of_reference self.now.model r) }
+        ensures ticks { IfOk result (λ found. steps.new ≡ steps.old + length found.items) }
+        ensures bound { steps.new ≤ steps.old + length (rows_of_reference self.now.model r) }
+    {
+        match self.meta.reference(r) {
+            Some(info) => {
+                let rows = reference_rows(
+                    alloc,
+                    &self.slots,
+                    self.listings.as_slice(),
+                    info.class,
+                    r,
                     steps,
                 )?;
                 Ok(Rows::from_ascending(rows))

@@ -37,6 +37,6 @@ targets_in r (Some body) = objects_of body.outgoing r
 abbrev pub target_rows : ObjId → List ObjId → List (List Value)
 target_rows o targets = map (λ target. Obj o ∷ Obj target ∷ []) targets
 
--- a row for each link of a reference
-abbrev pub link_rows : RefId → List Slot → List (List Value)
-link_rows r slots = flat_map (λ s. target_rows s.number (targets_in r s.body)) slots
+-- a row for each target of each object of a listing
+abbrev pub link_rows : List Slot → RefId → List ObjId → List (List Value)
+link_rows slots r listing = flat_map (λ o. target_rows o (targets_in r (body_at slots o))) listing

@@ -1,0 +1,45 @@
+-- The rows of the values over the listing of the declaring class are those of the model.
+use Rattle.std.proofs.Common.{◌≡◌, ◌≤◌, ◌<◌, ◌+◌, length, sym, subst}
+use Rattle.std.specs.Prelude.{slice_get, None}
+use Rattle.vt_meta.proofs.Sound.Places.{slice_get-below}
+use Rattle.vt_graph.specs.Held.{Held}
+use Rattle.vt_graph.proofs.HeldRowsLemmas.{value_rows_held, value_rows_ascend}
+use Rattle.vt_graph.proofs.graph.Graph.attr_rows.Goals as goal
+
+pub returns-in_err-rows-in-Some-clause-bound : goal.returns-in_err-rows-in-Some-clause-bound
+returns-in_err-rows-in-Some-clause-bound g c =
+    let i = c.self.inside in
+    let same = value_rows_held i.meta i.next i.slots c.args.self.now c.self.view_is c.self.invariant.0 i.listings.items c.as_slice.result.now c.self.invariant.2 c.as_slice.ensures.value
+    c.args.a c.in-Some.info.now c.in-Some.ensures in
+    subst (λ rows. c.attribute_rows.new.steps ≤ c.args.steps.now + length rows) same c.attribute_rows.ensures.bound
+
+pub from_ascending-requires : goal.from_ascending-requires
+from_ascending-requires g c =
+    let i = c.self.inside in
+    record {
+      ascends = rw c.in_ok-rows-in-Some.ensures.value
+          (value_rows_ascend i.meta i.next i.slots c.args.self.now c.self.view_is c.self.invariant.0 i.listings.items c.as_slice.result.now c.self.invariant.2 c.as_slice.ensures.value c.args.a c.in-Some.info.now c.in-Some.ensures);
+    }
+
+pub returns-in_ok-rows-in-Some-clause-value : goal.returns-in_ok-rows-in-Some-clause-value
+returns-in_ok-rows-in-Some-clause-value g c =
+    let i = c.self.inside in
+    let same = value_rows_held i.meta i.next i.slots c.args.self.now c.self.view_is c.self.invariant.0 i.listings.items c.as_slice.result.now c.self.invariant.2 c.as_slice.ensures.value
+    c.args.a c.in-Some.info.now c.in-Some.ensures in
+    cc (c.from_ascending.ensures, c.in_ok-rows-in-Some.ensures.value, same)
+
+pub returns-in_ok-rows-in-Some-clause-bound : goal.returns-in_ok-rows-in-Some-clause-bound
+returns-in_ok-rows-in-Some-clause-bound g c =
+    let i = c.self.inside in
+    let same = value_rows_held i.meta i.next i.slots c.args.self.now c.self.view_is c.self.invariant.0 i.listings.items c.as_slice.result.now c.self.invariant.2 c.as_slice.ensures.value
+    c.args.a c.in-Some.info.now c.in-Some.ensures in
+    subst (λ rows. c.attribute_rows.new.steps ≤ c.args.steps.now + length rows) same c.attribute_rows.ensures.bound
+
+-- the attribute is there
+pub returns-in-None-clause-value : goal.returns-in-None-clause-value
+returns-in-None-clause-value g c =
+    let i = c.self.inside in
+    let below = subst (λ (held : Held). c.args.a.0 < length held.meta.attributes) (sym c.self.view_is) c.requires.there in
+    let found = slice_get-below i.meta.attributes c.args.a.0 below in
+    let none : None ≡ slice_get i.meta.attributes c.args.a.0 = c.in-None.ensures in
+    cc

@@ -1,0 +1,62 @@
+-- The edit of a deletion can be taken back; and the object that is named is live.
+use Rattle.std.proofs.Common.{◌≡◌, ℕ, List, ◌++◌, refl, sym, ap, subst, ◌∙◌, eq-eqb}
+use Rattle.std.specs.Prelude.{◌==◌, Contains, filter, fold, map, IsSome, is_some}
+use Rattle.std.proofs.lemmas.List.Kept.{IsStrictlySortedBy-filter}
+use Rattle.vt_base.specs.declared.numbers.ObjId.{ObjId}
+use Rattle.vt_meta.specs.Declarations.{is_name}
+use Rattle.vt_meta.specs.Metamodel.{Metamodel}
+use Rattle.vt_meta.specs.Model.{Model}
+use Rattle.vt_meta.specs.Containing.{is_inside}
+use Rattle.vt_meta.specs.Deleting.{with_gone, deleted}
+use Rattle.vt_meta.specs.Valid.{object_order, IsValid}
+use Rattle.vt_meta.specs.declared.model.Object.{Object}
+use Rattle.vt_meta.proofs.MemberLemmas.{Contains-map, Contains-from_filter, Contains-find, find-some}
+use Rattle.vt_graph.specs.Held.{Held}
+use Rattle.vt_graph.specs.Asked.{live_at, gone_at}
+use Rattle.vt_graph.specs.Room.{KeepsRoom, HasRoom}
+use Rattle.vt_store.specs.declared.naming.Named.{Named}
+use Rattle.vt_store.specs.Edits.{edit_of}
+use Rattle.vt_store.specs.Undoing.{HeldEdit, Fits}
+use Rattle.vt_store.specs.Inside.Kept.{gone_of}
+use Rattle.vt_store.specs.Inside.Levels.{objects_inside}
+use Rattle.vt_store.specs.Inside.Named.{IsNamed}
+use Rattle.vt_store.specs.Inside.Waiting.{HasClasses}
+use Rattle.vt_store.proofs.CreateLemmas.{room_kept}
+use Rattle.vt_store.proofs.FitLemmas.{fits_made}
+use Rattle.vt_store.proofs.Deleting.Buried.{object_at-live}
+use Rattle.vt_store.proofs.Deleting.Edit.{Contains-with_gone, edit_of_deleted}
+
+-- what is inside is among the deleted
+gone-inside : (meta : Metamodel) (g : Model) (o : ObjId) → IsValid meta g → (x : Object) → Contains (objects_inside meta g o) x → IsSome (gone_at (deleted meta g o) x.number)
+gone-inside meta g o valid x there =
+    let stands = Contains-with_gone g.gone (objects_inside meta g o) (IsStrictlySortedBy-filter object_order (λ y. is_inside meta g y.number o) g.live valid.objects_rise)
+    (λ y z one gone same. valid.numbers_differ y z (Contains-from_filter (λ w. is_inside meta g w.number o) g.live y one).0 gone same)
+    (gone_of x) (Contains-map gone_of (objects_inside meta g o) x there) in
+    ap is_some (find-some (λ y. y.number.0 == x.number.0) (deleted meta g o).gone (gone_of x) stands (eq-eqb x.number.0 x.number.0 refl)).1
+
+module _ (old new : Held) (e : HeldEdit) (o : ObjId) (valid : IsValid old.meta old.model) (made : new.model ≡ deleted old.meta old.model o)
+    (is : e.edit ≡ edit_of old.model (deleted old.meta old.model o)) where
+  -- the edit is what changed
+  pub deleted_edit : e.edit ≡ edit_of old.model new.model
+  deleted_edit = is ∙ ap (edit_of old.model) (sym made)
+
+  -- and it fits
+  pub deleted_fits : IsValid new.meta new.model → HasRoom old.places old.model → new.meta ≡ old.meta → e.meta ≡ old.meta
+      → HasClasses new.places e.edit.live.removed → HasClasses e.waiting e.edit.live.removed → KeepsRoom old.places (e.waiting ++ new.places) → Fits e new
+  deleted_fits still has meta of kept waits room = fits_made e old new (record {
+    of = of ∙ sym meta;
+    is = deleted_edit;
+    gone = λ x went. subst (λ g. IsSome (gone_at g x.number)) (sym made) (gone-inside old.meta old.model o valid x (subst (λ xs. Contains xs x) removed went));
+    kept = kept;
+    waits = waits;
+    room = room_kept old.model old.places (e.waiting ++ new.places) room;
+  }) meta valid still has
+    where
+      removed : e.edit.live.removed ≡ objects_inside old.meta old.model o
+      removed = ap (λ d. d.live.removed) (is ∙ edit_of_deleted old.meta old.model o valid)
+
+-- a live object that is named is found by its number
+pub named_live : (meta : Metamodel) (g : Model) → IsValid meta g → (name : List ℕ) (o : Named) → IsNamed g name o → IsSome (live_at g o.number)
+named_live meta g valid name o named =
+    let there = Contains-find (λ x. is_name x.name name) g.live (record { number = o.number; name = name; class = o.class }) named in
+    ap is_some (object_at-live g valid.objects_rise (record { number = o.number; name = name; class = o.class }) there.0)

@@ -1,0 +1,15 @@
+pub mod RisingLemmas
+pub mod EditLemmas
+pub mod SameLemmas
+pub mod UndoneLemmas
+pub mod NamedLemmas
+pub mod Linking
+pub mod Deleting
+pub mod NetLemmas
+pub mod CreateLemmas
+pub mod AssignLemmas
+pub mod Reverted
+pub mod FitLemmas
+pub mod AssignmentLemmas
+pub mod StoreLemmas
+pub mod LinkageLemmas

@@ -1,0 +1,8 @@
+-- No public clause cites a module below.
+pub mod Named
+pub mod Asking
+pub mod Displaced
+pub mod Assigned
+pub mod Kept
+pub mod Levels
+pub mod Waiting

@@ -1,0 +1,40 @@
+//! A typed model that takes single changes, refuses each that would break it, and can take each
+//! change back.
+//!
+//! It stands on `vt_graph`, and on what `vt_meta` says of changes. Read `specs/Edits.antt`, then
+//! `specs/Undoing.antt`.
+#![tactic(auto)]
+
+// A store, what a change did, and why it wasn't made.
+mod applying;
+mod edit;
+mod fault;
+mod linkage;
+mod removal;
+mod rows;
+mod store;
+// What changes ask for, and what is done for them.
+mod asking;
+mod assignment;
+mod creation;
+mod deletion;
+mod displaced;
+mod naming;
+mod references;
+mod relinking;
+mod reverting;
+mod valuing;
+// What holds of every edit.
+mod laws;
+#[cfg(test)]
+mod tests;
+
+// A store, what a change did, and why it wasn't made.
+pub use edit::Edit;
+pub use fault::StoreFault;
+pub use store::Store;
+pub use vt_graph::Seen;
+pub use vt_meta::{Change, Given, Refusal};
+pub use vt_slots::Held;
+// What holds of every edit.
+pub use laws::{edit_tells_apart, fits_with_more_room, undoing_gives_back};
