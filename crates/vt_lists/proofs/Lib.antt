@@ -1,0 +1,4 @@
+pub mod EffectLemmas
+pub mod InsideLemmas
+pub mod GoneLemmas
+pub mod BackLemmas
