@@ -5,7 +5,8 @@ use Rattle.vt_base.specs.declared.value.Value.{Value}
 use Rattle.vt_outside.specs.Shelf.{NamedFiles, file_at}
 use Rattle.vt_meta.specs.Base.{counts_of}
 use Rattle.vt_meta.specs.Metamodel.{Metamodel, enum_names}
-use Rattle.vt_meta.specs.Model.{Model, object_names}
+use Rattle.vt_meta.specs.Model.{Model}
+use Rattle.vt_graph.specs.Asked.{all_names}
 use Rattle.vt_query.specs.Calls.{IsAcyclic}
 use Rattle.vt_query.specs.Narrow.{IsNarrow}
 use Rattle.vt_query.specs.Tables.{StandFor}
@@ -13,11 +14,10 @@ use Rattle.vt_query.specs.declared.program.Program.{Program}
 use Rattle.vt_vql.specs.Queries.{Accepts, IsFaultOf}
 use Rattle.vt_vql.specs.declared.fault.QueryFault.{QueryFault}
 use Rattle.vt_vql.specs.declared.fault.QueryFault.TheVariants.{NoMemory}
-use Rattle.vt_model_json.specs.Held.{Held}
 use Rattle.vt_cli.specs.Command.{Command, show, matches, command_of}
 use Rattle.vt_cli.specs.Lists.{match_lists}
 use Rattle.vt_cli.specs.Refusals.{refused_queries}
-use Rattle.vt_cli.specs.Result.{bytes_of, documents_of, loaded_from, shown, done, IsListed, IsMatched, IsRefused, IsDueTo, IsDueToCommand, IsDue}
+use Rattle.vt_cli.specs.Result.{bytes_of, documents_of, loaded_from, shown, done, IsListed, IsMatched, IsRefused, IsDueTo, IsDueToCommand, IsDue, Loaded}
 use Rattle.vt_cli.specs.declared.fetching.Documents.{Documents}
 use Rattle.vt_cli.specs.declared.ending.Role.TheVariants as role
 use Rattle.vt_cli.specs.declared.ending.Outcome.{Outcome}
@@ -55,7 +55,7 @@ has_outcome fault outcome e h = let none : None ≡ Some outcome = sym (ap refus
 some_same : (x y : Outcome) → Some x ≡ Some y → x ≡ y
 some_same x y e = cc
 
-module _ (below : Below) (l : Held) (bytes : List ℕ) where
+module _ (below : Below) (l : Loaded) (bytes : List ℕ) where
   one_refusal : IsAtMostOne (IsRefused l bytes)
   one_refusal outcome other a b =
       let same = below.one_fault l.meta bytes a.fault b.fault (has_outcome a.fault outcome a.is) (has_outcome b.fault other b.is) a.stands b.stands in
@@ -66,7 +66,7 @@ module _ (below : Below) (l : Held) (bytes : List ℕ) where
   one_listing : (program : Program) → IsAcyclic program → IsAtMostOne (IsListed l program)
   one_listing program acyclic outcome other a b =
       let same = below.one_list l.meta l.model program a.tables b.tables acyclic a.stand b.stand in
-      a.is ∙ ap (λ tables. done (match_lists (enum_names l.meta) (object_names l.model) program.patterns tables)) same ∙ sym b.is
+      a.is ∙ ap (λ tables. done (match_lists (enum_names l.meta) (all_names l.model) program.patterns tables)) same ∙ sym b.is
 
   one_match : IsAtMostOne (IsMatched l bytes)
   one_match outcome other a b =
@@ -89,7 +89,7 @@ module _ (below : Below) (l : Held) (bytes : List ℕ) where
 
 -- ---- commands
 
-one_shown : (l : Held) → IsAtMostOne (λ o. o ≡ shown l)
+one_shown : (l : Loaded) → IsAtMostOne (λ o. o ≡ shown l)
 one_shown l outcome other e f = e ∙ sym f
 
 one_due_to_command : Below → (command : Option Command) (files : NamedFiles) → IsAtMostOne (IsDueToCommand command files)

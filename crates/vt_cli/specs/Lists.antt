@@ -1,5 +1,5 @@
 -- The text of match lists.
-use Rattle.std.specs.Prelude.{ℕ, List, [], ◌∷◌, ◌++◌, map, flat_map, length, codes, decimal, if◌then◌else◌}
+use Rattle.std.specs.Prelude.{ℕ, List, [], ◌∷◌, ◌++◌, flat_map, length, codes, decimal, if◌then◌else◌}
 use Rattle.vt_base.specs.Names.{EnumNames, ObjectName}
 use Rattle.vt_base.specs.Written.{tuple_text}
 use Rattle.vt_base.specs.declared.value.Value.{Value}

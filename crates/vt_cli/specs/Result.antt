@@ -1,20 +1,20 @@
 -- What is due to a list of words over told files: an ending and a text.
-use Rattle.std.specs.Prelude.{◌≡◌, ◌≢◌, ◌⊎◌, ℕ, ◌+◌, List, [], ◌∷◌, ◌++◌, length, codes, nat_lt, if◌then◌else◌, Option, Some, None, Result, Ok, Err}
+use Rattle.std.specs.Prelude.{◌≡◌, ◌⊎◌, ℕ, ◌+◌, List, ◌++◌, length, codes, nat_lt, if◌then◌else◌, Option, Some, None, Result, Ok, Err}
 use Rattle.vt_base.specs.declared.value.Value.{Value}
 use Rattle.vt_outside.specs.Shelf.{NamedFiles, file_at}
 use Rattle.vt_meta.specs.Metamodel.{Metamodel, enum_names}
-use Rattle.vt_meta.specs.Model.{Model, object_names}
+use Rattle.vt_meta.specs.Model.{Model}
 use Rattle.vt_meta.specs.Reading.{meta_of}
+use Rattle.vt_graph.specs.Asked.{all_names}
 use Rattle.vt_query.specs.Tables.{StandFor}
 use Rattle.vt_query.specs.declared.program.Program.{Program}
 use Rattle.vt_vql.specs.Queries.{Accepts, IsFaultOf}
 use Rattle.vt_vql.specs.declared.fault.QueryFault.{QueryFault}
 use Rattle.vt_model_json.specs.Loading.{loaded}
 use Rattle.vt_model_json.specs.Dump.{dump}
-use Rattle.vt_model_json.specs.Held.{Held}
 use Rattle.vt_cli.specs.Command.{Command, show, matches, command_of}
 use Rattle.vt_cli.specs.Lines.{usage_line, missing_line, too_large_line}
-use Rattle.vt_cli.specs.Refusals.{refused, refused_meta, refused_model, refused_queries}
+use Rattle.vt_cli.specs.Refusals.{refused_meta, refused_model, refused_queries}
 use Rattle.vt_cli.specs.Lists.{match_lists}
 use Rattle.vt_cli.specs.declared.fetching.Documents.{Documents}
 use Rattle.vt_cli.specs.declared.ending.Role.{Role}
@@ -50,6 +50,11 @@ documents_of files metamodel model = do
 
 -- ---- documents
 
+-- a model, with its metamodel
+pub record Loaded : Type 0 where
+  pub meta : Metamodel
+  pub model : Model
+
 abbrev pub metamodel_of : List ℕ → Result Metamodel Outcome
 metamodel_of bytes = refused_meta (meta_of bytes)
 
@@ -57,7 +62,7 @@ abbrev pub model_of : Metamodel → List ℕ → Result Model Outcome
 model_of meta bytes = refused_model (loaded meta bytes)
 
 -- the metamodel is judged before the model
-abbrev pub loaded_from : Documents → Result Held Outcome
+abbrev pub loaded_from : Documents → Result Loaded Outcome
 loaded_from documents = do
   meta ← metamodel_of documents.metamodel
   g ← model_of meta documents.model
@@ -74,23 +79,23 @@ abbrev pub usage : Outcome
 usage = record { ending = Usage; text = usage_line }
 
 -- a model's dump and a line's end
-abbrev pub shown : Held → Outcome
+abbrev pub shown : Loaded → Outcome
 shown l = done (dump l.meta l.model ++ codes "\n")
 
 -- the match lists of a program, whose tables are these
-pub record IsListed (l : Held) (program : Program) (outcome : Outcome) : Type 0 where
+pub record IsListed (l : Loaded) (program : Program) (outcome : Outcome) : Type 0 where
   pub tables : List (List (List Value))
   pub stand : StandFor l.meta l.model program tables
-  pub is : outcome ≡ done (match_lists (enum_names l.meta) (object_names l.model) program.patterns tables)
+  pub is : outcome ≡ done (match_lists (enum_names l.meta) (all_names l.model) program.patterns tables)
 
 -- those of the program that the bytes of a query file spell
-pub record IsMatched (l : Held) (bytes : List ℕ) (outcome : Outcome) : Type 0 where
+pub record IsMatched (l : Loaded) (bytes : List ℕ) (outcome : Outcome) : Type 0 where
   pub program : Program
   pub accepts : Accepts l.meta bytes program
   pub listed : IsListed l program outcome
 
 -- or the line that tells the query file's first fault
-pub record IsRefused (l : Held) (bytes : List ℕ) (outcome : Outcome) : Type 0 where
+pub record IsRefused (l : Loaded) (bytes : List ℕ) (outcome : Outcome) : Type 0 where
   pub fault : QueryFault
   pub stands : IsFaultOf l.meta bytes fault
   pub is : refused_queries fault ≡ Some outcome

@@ -3,6 +3,7 @@ ghost use Rattle.std.specs.Prelude.{◌≡◌, IfOk, IfErr, Ok, Err};
 ghost use Rattle.vt_meta.specs.Sound.{IsSound};
 ghost use Rattle.vt_cli.specs.Result.{metamodel_of, model_of, loaded_from};
 ghost use Rattle.vt_cli.specs.Inside.Prepared.{IsJudged};
+ghost use Rattle.vt_cli.specs.Inside.Seen.{loaded_of};
 
 use crate::ending::Outcome;
 use crate::fetching::Documents;
@@ -10,7 +11,8 @@ use crate::refusals;
 use std::alloc::Global;
 use vt_base::NoMemory;
 use vt_meta::{Metamodel, read_meta};
-use vt_model_json::{ListStore, read_model};
+use vt_model_json::read_store;
+use vt_store::Store;
 
 // The metamodel, or the outcome of its first fault.
 fn metamodel(alloc: Global, bytes: &[u8]) -> Result<Result<Metamodel, Outcome>, NoMemory>
@@ -25,11 +27,7 @@ fn metamodel(alloc: Global, bytes: &[u8]) -> Result<Result<Metamodel, Outcome>, 
 }
 
 // The model of a metamodel, or the outcome of its first fault.
-fn model(
-    alloc: Global,
-    meta: &Metamodel,
-    bytes: &[u8],
-) -> Result<Result<ListStore, Outcome>, NoMemory>
+fn model(alloc: Global, meta: &Metamodel, bytes: &[u8]) -> Result<Result<Store, Outcome>, NoMemory>
     requires { IsSound meta.now }
     ensures of { IfOk result (λ judged. IfOk judged (λ store. store.meta ≡ meta.now)) }
     ensures accepted { IfOk result (λ judged. IfOk judged (λ store.
@@ -38,7 +36,7 @@ fn model(
         model_of meta.now bytes.now ≡ Err outcome)) }
     ensures judged { IfOk result (λ judged. IfErr judged (λ outcome. IsJudged outcome.ending)) }
 {
-    match read_model(alloc, meta, bytes) {
+    match read_store(alloc, meta, bytes) {
         Ok(store) => Ok(Ok(store)),
         Err(fault) => Ok(Err(refusals::model(alloc, fault)?)),
     }
@@ -46,11 +44,11 @@ fn model(
 
 /// The model of both documents, or the outcome of the first that is refused. The metamodel is
 /// judged before the model.
-pub(crate) fn load(
-    alloc: Global,
-    documents: &Documents,
-) -> Result<Result<ListStore, Outcome>, NoMemory>
-    ensures due { IfOk result (λ judged. judged ≡ loaded_from documents.now) }
+pub(crate) fn load(alloc: Global, documents: &Documents) -> Result<Result<Store, Outcome>, NoMemory>
+    ensures accepted { IfOk result (λ judged. IfOk judged (λ store.
+        loaded_from documents.now ≡ Ok (loaded_of store))) }
+    ensures refused { IfOk result (λ judged. IfErr judged (λ outcome.
+        loaded_from documents.now ≡ Err outcome)) }
     ensures sound { IfOk result (λ judged. IfOk judged (λ store. IsSound store.meta)) }
     ensures judged { IfOk result (λ judged. IfErr judged (λ outcome. IsJudged outcome.ending)) }
 {

@@ -4,12 +4,13 @@ ghost use Rattle.std.specs.List.{AllByRecursion};
 ghost use Rattle.vt_base.specs.Names.{AreNamed};
 ghost use Rattle.vt_cli.specs.Lists.{match_line, match_list, shown_list, match_lists};
 ghost use Rattle.vt_meta.specs.Base.{counts_of};
-ghost use Rattle.vt_meta.specs.Fits.{AllFit};
 ghost use Rattle.vt_meta.specs.Sound.{IsSound};
+ghost use Rattle.vt_meta.specs.Valid.{IsValid};
 ghost use Rattle.vt_query.specs.Narrow.{IsNarrow};
 ghost use Rattle.vt_cli.specs.Result.{file_limit, IsListed, IsMatched, IsRefused};
 ghost use Rattle.vt_cli.specs.Inside.Prepared.{IsJudged};
 ghost use Rattle.vt_cli.specs.Inside.Printable.{AllNamed, AllTablesNamed};
+ghost use Rattle.vt_cli.specs.Inside.Seen.{loaded_of};
 
 use crate::ending::{Ending, Outcome};
 use crate::refusals;
@@ -17,8 +18,8 @@ use std::alloc::Global;
 use std::sync::ledger::Ledger;
 use vt_base::{List, Names, NoMemory, Rows, Steps, Tuple, write_tuple};
 use vt_direct::evaluate_directly;
-use vt_model_json::ListStore;
 use vt_query::{Pattern, Program, narrow_rows_are_named};
+use vt_store::Store;
 use vt_vql::read_queries;
 
 fn write_match<N: Names>(
@@ -126,14 +127,14 @@ fn text_of<N: Names>(
 // The match lists of a program over a model.
 fn lists<L: Ledger>(
     alloc: Global,
-    store: &ListStore,
+    store: &Store,
     program: &Program,
     steps: &mut Steps<L>,
 ) -> Result<Outcome, NoMemory>
     requires sound { IsSound store.now.meta }
-    requires fit { AllFit store.now.meta store.now.model }
+    requires valid { IsValid store.now.meta store.now.model }
     requires narrow { IsNarrow (counts_of store.now.meta) program.now }
-    ensures due { IfOk result (λ outcome. IsListed store.now program.now outcome) }
+    ensures due { IfOk result (λ outcome. IsListed (loaded_of store.now) program.now outcome) }
     ensures judged { IfOk result (λ outcome. IsJudged outcome.ending) }
 {
     narrow_rows_are_named();
@@ -148,14 +149,14 @@ fn lists<L: Ledger>(
 /// What is due to the bytes of a query file over a model.
 pub(crate) fn matches<L: Ledger>(
     alloc: Global,
-    store: &ListStore,
+    store: &Store,
     bytes: &[u8],
     steps: &mut Steps<L>,
 ) -> Result<Outcome, NoMemory>
     requires sound { IsSound store.now.meta }
     requires small { length bytes.now ≤ file_limit }
     ensures due { IfOk result (λ outcome.
-        IsMatched store.now bytes.now outcome ⊎ IsRefused store.now bytes.now outcome) }
+        IsMatched (loaded_of store.now) bytes.now outcome ⊎ IsRefused (loaded_of store.now) bytes.now outcome) }
     ensures judged { IfOk result (λ outcome. IsJudged outcome.ending) }
 {
     match read_queries(alloc, store.meta(), bytes) {

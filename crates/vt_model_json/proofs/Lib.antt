@@ -1,10 +1,10 @@
 pub mod EffectLemmas
-pub mod InsideLemmas
-pub mod BuildingLemmas
 pub mod StopLemmas
 pub mod LoadingLemmas
-pub mod RisingLemmas
-pub mod NamesLemmas
+pub mod NextLemmas
+pub mod DifferenceLemmas
 pub mod JoinedLemmas
 pub mod NoFloats
+pub mod TextLemmas
+pub mod Dumped
 pub mod DumpLoads

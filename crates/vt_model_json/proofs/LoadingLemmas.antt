@@ -9,11 +9,13 @@ use Rattle.vt_model_json.specs.ModelDocument.{rise, above_all, with_next, object
 use Rattle.vt_model_json.specs.declared.document.ObjectDocument.{ObjectDocument}
 use Rattle.vt_model_json.specs.declared.document.ModelDocument.{ModelDocument}
 
-left : (a b : Bool) → (a && b) ≡ true → a ≡ true
+-- both tests hold: the first
+pub left : (a b : Bool) → (a && b) ≡ true → a ≡ true
 left true b both = refl
 left false b both = both
 
-right : (a b : Bool) → (a && b) ≡ true → b ≡ true
+-- and the second
+pub right : (a b : Bool) → (a && b) ≡ true → b ≡ true
 right true b both = both
 right false b both = cc
 
@@ -31,16 +33,17 @@ after_test P true o b each out = each refl out
 
 -- ---- document_shape
 
--- its numbers rise, and its next number is at most the most
+-- its numbers rise, its next number is above them, and is at most the most
 pub record IsNumbered (document : ModelDocument) : Type 0 where
   pub rises : rise 0 document.objects ≡ true
+  pub covers : above_all 0 document.objects ≤ document.next
   pub few : document.next ≤ 1048576
 
 numbered : (objects : List ObjectDocument) (next : ℕ) (document : ModelDocument) → with_next objects next ≡ Some document → IsNumbered document
 numbered objects next document out = after_test IsNumbered (rise 0 objects && nat_le (above_all 0 objects) next && nat_le next 1048576) (Some (record { next = next; objects = objects })) document
     (λ passed is.
     let same : record { next = next; objects = objects } ≡ document = cc in
-    subst IsNumbered same (record { rises = left _ _ (left _ _ passed); few = leb-true _ _ (right _ _ passed) })) out
+    subst IsNumbered same (record { rises = left _ _ (left _ _ passed); covers = leb-true _ _ (right _ _ (left _ _ passed)); few = leb-true _ _ (right _ _ passed) })) out
 
 document_numbered : (d : Data) (document : ModelDocument) → document_shape d ≡ Some document → IsNumbered document
 document_numbered d document out =
@@ -55,6 +58,9 @@ document_numbered d document out =
 
 pub document_rises : (d : Data) (document : ModelDocument) → document_shape d ≡ Some document → rise 0 document.objects ≡ true
 document_rises d document out = (document_numbered d document out).rises
+
+pub document_covers : (d : Data) (document : ModelDocument) → document_shape d ≡ Some document → above_all 0 document.objects ≤ document.next
+document_covers d document out = (document_numbered d document out).covers
 
 pub document_few : (d : Data) (document : ModelDocument) → document_shape d ≡ Some document → document.next ≤ 1048576
 document_few d document out = (document_numbered d document out).few

@@ -1,4 +1,4 @@
--- A model's document has no float.
+-- The data of an object has no float.
 use Rattle.std.proofs.Common.{◌≡◌, ℕ, ◌+◌, ℤ, List, [], ◌∷◌, Bool, true, false, true≢false, refl, Ordering, Less, Equal, Greater}
 use Rattle.std.specs.Prelude.{◌||◌, pos, negsuc}
 use Rattle.std.specs.Ordering.{nat_cmp, match_ordering}
@@ -14,7 +14,7 @@ use Rattle.vt_meta.specs.declared.metamodel.RefInfo.{RefInfo}
 use Rattle.vt_meta.specs.declared.model.Object.{Object}
 use Rattle.vt_meta.specs.declared.model.AttributeValue.{AttributeValue}
 use Rattle.vt_meta.specs.declared.model.Link.{Link}
-use Rattle.vt_model_json.specs.Dump.{attribute_name, value_data, attribute_members, values_of, links_of, texts, target_names, with_targets, link_members, objects_data, model_data}
+use Rattle.vt_model_json.specs.Dump.{attribute_name, value_data, attribute_members, values_of, links_of, texts, target_names, with_targets, link_members, object_data}
 
 -- ---- tests
 
@@ -83,16 +83,10 @@ links-have_float g links ms r (info ∷ infos) in_ms =
     links-have_float g links (with_targets info.name (texts (target_names g r links)) ms) (r + 1) infos
     (targets-have_float info.name (texts (target_names g r links)) ms (texts-have_float (target_names g r links)) in_ms)
 
--- ---- the document
+-- ---- an object
 
-objects-have_float : (meta : Metamodel) (g : Model) (os : List Object) → items_have_float (objects_data meta g os) ≡ false
-objects-have_float meta g [] = refl
-objects-have_float meta g (o ∷ os) =
-    both _ _
-    (both _ _ (attributes-have_float meta no_members (values_of g o.number) refl)
-    (both _ _ (links-have_float g (links_of g o.number) no_members 0 meta.references refl) refl))
-    (objects-have_float meta g os)
-
-pub model_has_no_float : (meta : Metamodel) (g : Model) → has_float (model_data meta g) ≡ false
-unfolding model_data
-model_has_no_float meta g = both _ _ (objects-have_float meta g g.live) refl
+-- neither its values nor its links have one
+pub object_has_no_float : (meta : Metamodel) (g : Model) (o : Object) → has_float (object_data meta g o) ≡ false
+object_has_no_float meta g o =
+    both _ _ (attributes-have_float meta no_members (values_of g o.number) refl)
+    (both _ _ (links-have_float g (links_of g o.number) no_members 0 meta.references refl) refl)

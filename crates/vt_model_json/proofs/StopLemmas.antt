@@ -4,7 +4,7 @@ use Rattle.std.specs.Prelude.{Result}
 use Rattle.vt_meta.specs.Model.{Model}
 use Rattle.vt_meta.specs.Transaction.{Stop, and_then}
 use Rattle.vt_model_json.specs.Loading.{finished, IsFaultOf}
-use Rattle.vt_model_json.specs.Inside.Steps.{IsStopOf}
+use Rattle.vt_model_json.specs.Inside.Stops.{IsStopOf}
 use Rattle.vt_model_json.specs.declared.loading.ModelFault.{ModelFault}
 use Rattle.vt_model_json.specs.declared.loading.ModelFault.TheVariants.{NotJson, BadShape, Item, NoMemory}
 

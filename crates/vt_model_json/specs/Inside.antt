@@ -1,3 +1,5 @@
 -- No public clause cites a module below.
 pub mod Joined
-pub mod Steps
+pub mod Shown
+pub mod Stops
+pub mod Texts

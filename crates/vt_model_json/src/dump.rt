@@ -1,18 +1,19 @@
 // The text of a model: its document, with all keys.
-ghost use Rattle.std.specs.Prelude.{◌≡◌, ◌+◌, IfOk, OnOk, [], ◌∷◌, None, Some, filter, map, length, option_and_then, option_map, slice_get, string_bytes, unwrap_or};
+ghost use Rattle.std.specs.Prelude.{◌≡◌, ◌++◌, true, false, IfOk, OnOk, option_and_then, slice_get, string_bytes};
 ghost use Rattle.std.specs.Option.{option_copied};
 ghost use Rattle.serde_json.specs.Data.{array, object, string, no_members, Items, no_items, item};
 ghost use Rattle.serde_json.specs.View.{view, members_view};
-ghost use Rattle.vt_meta.specs.Model.{Model};
-ghost use Rattle.vt_model_json.specs.Dump.{class_name, attribute_name, literal_name, name_of, values_of, value_data, attribute_members, links_of, target_names, texts, with_targets, link_members, object_data, objects_data, model_data, dump};
+ghost use Rattle.serde_json.specs.Written.{comma_if, items_text};
+ghost use Rattle.vt_model_json.specs.Dump.{class_name, attribute_name, literal_name, values_of, value_data, attribute_members, links_of, target_names, texts, with_targets, link_members, object_data, objects_data, dump};
 ghost use Rattle.vt_model_json.specs.Inside.Joined.{joined};
+ghost use Rattle.vt_model_json.specs.Inside.Shown.{shown_name, shown_names};
+ghost use Rattle.vt_model_json.specs.Inside.Texts.{head_text, object_text};
 
-use crate::model::ListModel;
-use crate::store::ListStore;
 use serde_json::{Map, Value, json};
 use std::alloc::{AllocError, Global};
-use vt_base::{AttrId, ClassId, List, NoMemory, ObjId, Text};
-use vt_meta::{Link, Metamodel, Object, RefInfo};
+use vt_base::{AttrId, ClassId, List, NoMemory, ObjId, RefId, Text};
+use vt_meta::Metamodel;
+use vt_store::Store;
 
 // ---- names
 
@@ -50,11 +51,12 @@ fn literal_at(meta: &Metamodel, e: u16, l: u16) -> Option<&Text>
     meta.enum_at(e)?.literals.get(l as usize)
 }
 
-fn name_of(model: &ListModel, number: ObjId) -> &str
-    ensures { result.now ≡ name_of model.now number }
+// The name of an object, live or deleted.
+fn shown_name(store: &Store, number: ObjId) -> &str
+    ensures { result.now ≡ shown_name store.now.model number }
 {
-    match model.object_at(number) {
-        Some(object) => object.name.as_str(),
+    match store.name_of(number) {
+        Some(name) => name.as_str(),
         None => "",
     }
 }
@@ -80,40 +82,23 @@ fn text_data(alloc: Global, text: &str) -> Result<Value, NoMemory>
 }
 
 // Each value of an object under its attribute's name.
-fn attributes_data(
-    alloc: Global,
-    meta: &Metamodel,
-    model: &ListModel,
-    owner: ObjId,
-) -> Result<Value, NoMemory>
+fn attributes_data(alloc: Global, store: &Store, owner: ObjId) -> Result<Value, NoMemory>
     ensures { IfOk result (λ v.
-        view v ≡ object (attribute_members meta.now no_members (values_of model.now owner))) }
+        view v ≡ object (attribute_members store.now.meta no_members (values_of store.now.model owner))) }
 {
+    let meta = store.meta();
     let mut members = Map::new(alloc);
-    for held in model.values() {
-        if held.object.0 == owner.0 {
-            let value = value_data(alloc, meta, &held.value)?;
-            let name = attribute_name(meta, held.attribute);
-            serde_json::put(&mut members, alloc, name, value)?;
+    for place in store.values(owner) {
+        if let Some(value) = &place.value {
+            let data = value_data(alloc, meta, value)?;
+            let name = attribute_name(meta, place.attribute);
+            serde_json::put(&mut members, alloc, name, data)?;
         }
     }
     Ok(Value::Object(members))
 }
 
 // ---- links
-
-// The links of an object.
-fn links_of(alloc: Global, model: &ListModel, owner: ObjId) -> Result<List<Link>, NoMemory>
-    ensures { IfOk result (λ links. links ≡ links_of model.now owner) }
-{
-    let mut links = List::new(alloc);
-    for link in model.links() {
-        if link.source.0 == owner.0 {
-            links.add(*link)?;
-        }
-    }
-    Ok(links)
-}
 
 #[tactic(auto, using(crate::proofs::JoinedLemmas::joined_push))]
 fn push_item(values: &mut Vec<Value>, value: Value) -> Result<(), NoMemory>
@@ -131,24 +116,33 @@ fn array_data(values: Vec<Value>) -> Value
     Value::Array(values)
 }
 
+// The names of objects.
+fn name_items(alloc: Global, store: &Store, objects: &[ObjId]) -> Result<Vec<Value>, NoMemory>
+    ensures { IfOk result (λ values.
+        joined values.items no_items ≡ texts (shown_names store.now.model objects.now)) }
+{
+    let mut values = Vec::new(alloc);
+    for number in objects {
+        let name = text_data(alloc, shown_name(store, *number))?;
+        push_item(&mut values, name)?;
+    }
+    Ok(values)
+}
+
 // The names of the targets of an object by one reference.
 fn target_items(
     alloc: Global,
-    model: &ListModel,
-    links: &[Link],
-    reference: usize,
+    store: &Store,
+    owner: ObjId,
+    reference: RefId,
 ) -> Result<Vec<Value>, NoMemory>
     ensures { IfOk result (λ values.
-        joined values.items no_items ≡ texts (target_names model.now reference links.now)) }
+        joined values.items no_items
+        ≡ texts (target_names store.now.model reference.0 (links_of store.now.model owner))) }
 {
-    let mut values = Vec::new(alloc);
-    for link in links {
-        if link.reference.0 as usize == reference {
-            let value = text_data(alloc, name_of(model, link.target))?;
-            push_item(&mut values, value)?;
-        }
-    }
-    Ok(values)
+    // A store's metamodel tells that its model is valid, so all targets are live.
+    store.meta();
+    name_items(alloc, store, store.targets(owner, reference))
 }
 
 #[tactic(auto, using(crate::proofs::JoinedLemmas::targets_put))]
@@ -169,18 +163,13 @@ fn put_targets(
 }
 
 // An object's links, each reference with a target under its name.
-fn links_data(
-    alloc: Global,
-    references: &[RefInfo],
-    model: &ListModel,
-    links: &[Link],
-) -> Result<Value, NoMemory>
-    ensures { IfOk result (λ v.
-        view v ≡ object (link_members model.now links.now no_members 0 references.now)) }
+fn links_data(alloc: Global, store: &Store, owner: ObjId) -> Result<Value, NoMemory>
+    ensures { IfOk result (λ v. view v ≡ object
+        (link_members store.now.model (links_of store.now.model owner) no_members 0 store.now.meta.references)) }
 {
     let mut members = Map::new(alloc);
-    for (r, info) in references.iter().enumerate() {
-        let targets = target_items(alloc, model, links, r)?;
+    for (r, info) in store.meta().references().iter().enumerate() {
+        let targets = target_items(alloc, store, owner, RefId(r as u16))?;
         put_targets(&mut members, alloc, info.name.as_str(), targets)?;
     }
     Ok(Value::Object(members))
@@ -190,21 +179,22 @@ fn links_data(
 
 fn object_of_parts(
     alloc: Global,
-    meta: &Metamodel,
-    model: &ListModel,
-    described: &Object,
+    store: &Store,
+    number: ObjId,
+    class: ClassId,
     attributes: Value,
     links: Value,
 ) -> Result<Value, AllocError>
     requires attributes { view attributes
-        ≡ object (attribute_members meta.now no_members (values_of model.now described.now.number)) }
-    requires links { view links
-        ≡ object (link_members model.now (links_of model.now described.now.number) no_members 0 meta.now.references) }
-    ensures { IfOk result (λ v. view v ≡ object_data meta.now model.now described.now) }
+        ≡ object (attribute_members store.now.meta no_members (values_of store.now.model number)) }
+    requires links { view links ≡ object
+        (link_members store.now.model (links_of store.now.model number) no_members 0 store.now.meta.references) }
+    ensures { IfOk result (λ v. view v ≡ object_data store.now.meta store.now.model
+        (record { number = number; name = shown_name store.now.model number; class = class })) }
 {
-    let class = class_name(meta, described.class);
-    let name = described.name.as_str();
-    let number = described.number.0;
+    let class = class_name(store.meta(), class);
+    let name = shown_name(store, number);
+    let number = number.0;
     json!(in alloc; {
         "attributes": attributes,
         "class": class,
@@ -214,58 +204,79 @@ fn object_of_parts(
     })
 }
 
+// A live object with all its keys.
 fn object_data(
     alloc: Global,
-    meta: &Metamodel,
-    model: &ListModel,
-    described: &Object,
+    store: &Store,
+    number: ObjId,
+    class: ClassId,
 ) -> Result<Value, NoMemory>
-    ensures { IfOk result (λ v. view v ≡ object_data meta.now model.now described.now) }
+    ensures { IfOk result (λ v. view v ≡ object_data store.now.meta store.now.model
+        (record { number = number; name = shown_name store.now.model number; class = class })) }
 {
-    let attributes = attributes_data(alloc, meta, model, described.number)?;
-    let own = links_of(alloc, model, described.number)?;
-    let links = links_data(alloc, meta.references(), model, own.as_slice())?;
-    Ok(object_of_parts(alloc, meta, model, described, attributes, links)?)
+    let attributes = attributes_data(alloc, store, number)?;
+    let links = links_data(alloc, store, number)?;
+    Ok(object_of_parts(alloc, store, number, class, attributes, links)?)
 }
 
-fn objects_data(alloc: Global, meta: &Metamodel, model: &ListModel) -> Result<Value, NoMemory>
-    ensures { IfOk result (λ v. view v ≡ array (objects_data meta.now model.now model.now.live)) }
-{
-    let mut values = Vec::new(alloc);
-    for described in model.live() {
-        let value = object_data(alloc, meta, model, described)?;
-        push_item(&mut values, value)?;
-    }
-    Ok(array_data(values))
-}
-
-#[tactic(auto, unfolding(crate::specs::Dump::model_data))]
-fn model_of_objects(
+// The text of a live object.
+fn object_text(
     alloc: Global,
-    meta: &Metamodel,
-    model: &ListModel,
-    objects: Value,
-) -> Result<Value, AllocError>
-    requires { view objects ≡ array (objects_data meta.now model.now model.now.live) }
-    ensures { IfOk result (λ v. view v ≡ model_data meta.now model.now) }
+    store: &Store,
+    number: ObjId,
+    class: ClassId,
+) -> Result<String, NoMemory>
+    ensures { IfOk result (λ text. string_bytes text ≡ object_text store.now.meta store.now.model
+        (record { number = number; name = shown_name store.now.model number; class = class })) }
 {
-    let next = model.next();
-    json!(in alloc; {"format": 1u64, "next": next, "objects": objects})
+    let value = object_data(alloc, store, number, class)?;
+    Ok(value.to_string(alloc)?)
 }
 
-fn model_data(alloc: Global, meta: &Metamodel, model: &ListModel) -> Result<Value, NoMemory>
-    ensures { IfOk result (λ v. view v ≡ model_data meta.now model.now) }
+// Adds a text, after a comma where another stands before it.
+fn write_item(text: &mut List<u8>, later: bool, item: &str) -> Result<(), NoMemory>
+    ensures { OnOk result (text.new ≡ text.old ++ (comma_if later ++ item.now)) }
 {
-    let objects = objects_data(alloc, meta, model)?;
-    Ok(model_of_objects(alloc, meta, model, objects)?)
+    if later {
+        text.add(b',')?;
+    }
+    text.extend(item.as_bytes())
 }
 
-/// The text of a model.
-#[tactic(auto, using(crate::proofs::NoFloats::model_has_no_float))]
-pub fn write_model(alloc: Global, store: &ListStore) -> Result<List<u8>, NoMemory>
+// Adds the text of the live objects, in rising number, with the bracket that ends it.
+#[tactic(auto, using(crate::proofs::Dumped::Objects::items_first, crate::proofs::Dumped::Objects::items_last, crate::proofs::Dumped::Objects::item_absent, crate::proofs::TextLemmas::text_there))]
+fn write_objects(alloc: Global, store: &Store, text: &mut List<u8>) -> Result<(), NoMemory>
+    ensures { OnOk result (text.new ≡ text.old
+        ++ items_text false (objects_data store.now.meta store.now.model store.now.model.live)) }
+{
+    // It tells too that objects rise, up to below the next number.
+    store.meta();
+    let mut later = false;
+    for number in 0..store.next_number() {
+        let Some(class) = store.class_of(ObjId(number)) else {
+            continue;
+        };
+        let object = object_text(alloc, store, ObjId(number), class)?;
+        write_item(text, later, object.as_str())?;
+        later = true;
+    }
+    text.add(b']')
+}
+
+fn head_text(alloc: Global, next: u32) -> Result<String, AllocError>
+    ensures { IfOk result (λ head. string_bytes head ≡ head_text next) }
+{
+    format!(in alloc; "{{\"format\":1,\"next\":{next},\"objects\":[")
+}
+
+/// The text of a model. It is made object by object, so no tree of the whole stands beside it.
+#[tactic(auto, using(crate::proofs::TextLemmas::dump_written))]
+pub fn write_model(alloc: Global, store: &Store) -> Result<List<u8>, NoMemory>
     ensures { IfOk result (λ text. text ≡ dump store.now.meta store.now.model) }
 {
-    let value = model_data(alloc, store.meta(), store.model())?;
-    let text = value.to_string(alloc)?;
-    Ok(List::from_vec(text.into_bytes()))
+    let head = head_text(alloc, store.next_number())?;
+    let mut text = List::from_vec(head.into_bytes());
+    write_objects(alloc, store, &mut text)?;
+    text.add(b'}')?;
+    Ok(text)
 }

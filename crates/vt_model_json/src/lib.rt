@@ -1,25 +1,20 @@
-//! Model documents: read into a model, and written as its dump. And a model as queries see it.
+//! Model documents: read into a store, and written as the dump of its model.
 //!
-//! It stands on `vt_json` and `vt_meta`. Read `specs/ModelDocument.antt`, `specs/Loading.antt`,
-//! `specs/Dump.antt`, `specs/Writable.antt`, then `specs/Held.antt`.
+//! It stands on `vt_json`, `vt_meta` and `vt_store`. Read `specs/ModelDocument.antt`,
+//! `specs/Loading.antt`, `specs/Difference.antt`, `specs/Dump.antt`, then `specs/Writable.antt`.
 #![tactic(auto)]
 
-// A document, and the model that it makes.
+// A document, the model that it makes, and what is new in it.
+mod difference;
 mod document;
 mod loading;
-mod model;
-mod place;
-// A model with its metamodel, as queries see it.
-mod store;
 // The text of a model.
 mod dump;
 // What holds of the dump of every valid model.
 mod laws;
 
-// A document, and the model that it makes.
-pub use loading::{ModelFault, read_model};
-// A model with its metamodel, as queries see it.
-pub use store::ListStore;
+// A document, the model that it makes, and what is new in it.
+pub use loading::{ModelFault, read_model, read_store};
 // The text of a model.
 pub use dump::write_model;
 // What holds of the dump of every valid model.

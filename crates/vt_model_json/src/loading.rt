@@ -1,22 +1,24 @@
 // From bytes to a model: the changes of the document, made one after the other.
 ghost use Rattle.std.specs.Prelude.{◌≡◌, ◌+◌, ◌++◌, ◌≤◌, IfOk, IfErr, OnOk, Some, None, Ok, Err, map, flat_map, true};
+ghost use Rattle.vt_meta.specs.Metamodel.{Metamodel};
 ghost use Rattle.vt_meta.specs.Model.{empty_model};
 ghost use Rattle.vt_meta.specs.declared.change.Change.TheVariants as change;
 ghost use Rattle.vt_meta.specs.Effect.{effect};
 ghost use Rattle.vt_meta.specs.Transaction.{changes_from, stopped_at, transaction};
 ghost use Rattle.vt_meta.specs.Sound.{IsSound};
-ghost use Rattle.vt_model_json.specs.ModelDocument.{rise};
+ghost use Rattle.vt_meta.specs.Base.{base_of};
+ghost use Rattle.vt_model_json.specs.ModelDocument.{rise, above_all};
 ghost use Rattle.vt_model_json.specs.Loading.{creations, assignment, assignments, linkings, changes_of, loaded, finished, judged, IsFaultOf};
-ghost use Rattle.vt_model_json.specs.Held.{IsKept};
-ghost use Rattle.vt_model_json.specs.Inside.Steps.{IsBuilding, AreBuilding, IsStopOf};
+ghost use Rattle.vt_model_json.specs.Difference.{IsFromEmpty};
+ghost use Rattle.vt_model_json.specs.Inside.Stops.{IsStopOf};
 
+use crate::difference::from_empty;
 use crate::document::{Entry, ModelDocument, ObjectDocument};
-use crate::model::{ChangeFault, ListModel};
-use crate::store::ListStore;
 use std::alloc::Global;
-use vt_base::{List, NoMemory, Text};
+use vt_base::{BaseDelta, List, NoMemory, Text};
 use vt_json::{JsonFault, ObjectName, Shape, ShapeFault, parse};
 use vt_meta::{Change, Metamodel, Refusal};
+use vt_store::{Store, StoreFault};
 
 /// Why a model document is refused.
 #[derive(Clone, Copy, Debug, PartialEq, Eq)]
@@ -31,6 +33,42 @@ pub enum ModelFault {
     Item { index: u64, why: Refusal },
     /// Memory ran out. It may stand for any other answer.
     NoMemory,
+}
+
+impl From<NoMemory> for ModelFault {
+    ghost use Rattle.std.specs.Prelude.{◌≡◌};
+    ghost use Rattle.vt_model_json.specs.declared.loading.ModelFault.TheVariants as fault;
+
+    ghost from_gives = { λ _ e. e ≡ fault.NoMemory };
+
+    fn from(_: NoMemory) -> ModelFault {
+        ModelFault::NoMemory
+    }
+}
+
+// ---- the document
+
+// The document that bytes spell. The tree of their JSON values goes with the call.
+#[tactic(auto, using(crate::proofs::LoadingLemmas::document_rises, crate::proofs::LoadingLemmas::document_covers, crate::proofs::LoadingLemmas::document_few), unfolding(crate::specs::Loading::loaded))]
+fn document_of(alloc: Global, bytes: &[u8]) -> Result<ModelDocument, ModelFault>
+    ensures spelled { IfOk result (λ document.
+        (meta : Metamodel) → loaded meta bytes.now ≡ judged meta (Some document)) }
+    ensures rises { IfOk result (λ document. rise 0 document.objects ≡ true) }
+    ensures covers { IfOk result (λ document. above_all 0 document.objects ≤ document.next) }
+    ensures few { IfOk result (λ document. document.next ≤ 1048576) }
+    ensures refused { IfErr result (λ fault.
+        (meta : Metamodel) → IsFaultOf fault (loaded meta bytes.now)) }
+{
+    let value = match parse(alloc, bytes) {
+        Ok(value) => value,
+        Err(JsonFault::NotJson) => return Err(ModelFault::NotJson),
+        Err(JsonFault::NoMemory) => return Err(ModelFault::NoMemory),
+    };
+    match ModelDocument::read(alloc, &value) {
+        Ok(document) => Ok(document),
+        Err(ShapeFault::BadShape) => Err(ModelFault::BadShape),
+        Err(ShapeFault::NoMemory) => Err(ModelFault::NoMemory),
+    }
 }
 
 // ---- the changes of a document
@@ -132,9 +170,10 @@ fn add_linkings(changes: &mut List<Change>, objects: &[ObjectDocument]) -> Resul
     Ok(())
 }
 
-fn changes_of(alloc: Global, document: &ModelDocument) -> Result<List<Change>, NoMemory>
-    requires { rise 0 document.now.objects ≡ true }
-    ensures { IfOk result (λ changes. changes ≡ changes_of document.now) }
+// The changes of a document, which goes with the call.
+fn changes_of(alloc: Global, document: ModelDocument) -> Result<List<Change>, NoMemory>
+    requires { rise 0 document.objects ≡ true }
+    ensures { IfOk result (λ changes. changes ≡ changes_of document) }
 {
     let mut changes = List::new(alloc);
     let objects = document.objects.as_slice();
@@ -148,77 +187,115 @@ fn changes_of(alloc: Global, document: &ModelDocument) -> Result<List<Change>, N
 
 // Makes the change at a place.
 fn apply_at(
-    model: &mut ListModel,
+    store: &mut Store,
     alloc: Global,
-    meta: &Metamodel,
     place: usize,
     change: &Change,
 ) -> Result<(), ModelFault>
-    requires building { IsBuilding change.now }
-    ensures made { OnOk result (stopped_at place (effect meta.now model.old change.now)
-        ≡ Ok model.new) }
+    ensures made { OnOk result (stopped_at place (effect store.old.meta store.old.model change.now)
+        ≡ Ok store.new.model) }
+    ensures of { store.new.meta ≡ store.old.meta }
     ensures refused { IfErr result (λ fault.
-        IsStopOf fault (stopped_at place (effect meta.now model.old change.now))) }
+        IsStopOf fault (stopped_at place (effect store.old.meta store.old.model change.now))) }
 {
-    match model.apply(alloc, meta, change) {
-        Ok(()) => Ok(()),
-        Err(ChangeFault::Refused(why)) => Err(ModelFault::Item {
+    match store.apply(alloc, change) {
+        Ok(_) => Ok(()),
+        Err(StoreFault::Refused(why)) => Err(ModelFault::Item {
             index: place as u64,
             why,
         }),
-        Err(ChangeFault::NoMemory) => Err(ModelFault::NoMemory),
+        Err(StoreFault::NoMemory) => Err(ModelFault::NoMemory),
     }
+}
+
+// Makes all changes, up to the first that is refused.
+#[tactic(auto, using(crate::proofs::StopLemmas::stop_after))]
+fn apply_all(store: &mut Store, alloc: Global, changes: &[Change]) -> Result<(), ModelFault>
+    ensures made { OnOk result (transaction store.old.meta store.old.model changes.now
+        ≡ Ok store.new.model) }
+    ensures of { store.new.meta ≡ store.old.meta }
+    ensures refused { IfErr result (λ fault.
+        IsStopOf fault (transaction store.old.meta store.old.model changes.now)) }
+{
+    for (place, change) in changes.iter().enumerate() {
+        apply_at(store, alloc, place, change)?;
+    }
+    Ok(())
 }
 
 // The model after all changes, or the first that is refused.
-#[tactic(auto, using(crate::proofs::StopLemmas::stop_after))]
-fn transact(alloc: Global, meta: &Metamodel, changes: &[Change]) -> Result<ListModel, ModelFault>
-    requires building { AreBuilding changes.now }
-    ensures made { IfOk result (λ model. transaction meta.now empty_model changes.now ≡ Ok model) }
+fn transact(alloc: Global, meta: &Metamodel, changes: &[Change]) -> Result<Store, ModelFault>
+    requires sound { IsSound meta.now }
+    ensures made { IfOk result (λ store.
+        transaction meta.now empty_model changes.now ≡ Ok store.model) }
+    ensures of { IfOk result (λ store. store.meta ≡ meta.now) }
     ensures refused { IfErr result (λ fault.
         IsStopOf fault (transaction meta.now empty_model changes.now)) }
 {
-    let mut model = ListModel::new(alloc);
-    for (place, change) in changes.iter().enumerate() {
-        apply_at(&mut model, alloc, meta, place, change)?;
-    }
-    Ok(model)
+    let mut store = Store::new(alloc, meta)?;
+    apply_all(&mut store, alloc, changes)?;
+    Ok(store)
+}
+
+// The model that the changes of a document make, or the first that is refused.
+#[tactic(auto, using(crate::proofs::NextLemmas::next_covered))]
+fn make(alloc: Global, meta: &Metamodel, document: ModelDocument) -> Result<Store, ModelFault>
+    requires sound { IsSound meta.now }
+    requires rises { rise 0 document.objects ≡ true }
+    requires covers { above_all 0 document.objects ≤ document.next }
+    ensures made { IfOk result (λ store.
+        transaction meta.now empty_model (changes_of document) ≡ Ok store.model) }
+    ensures covered { IfOk result (λ store. store.model.next ≤ document.next) }
+    ensures of { IfOk result (λ store. store.meta ≡ meta.now) }
+    ensures refused { IfErr result (λ fault.
+        IsStopOf fault (transaction meta.now empty_model (changes_of document))) }
+{
+    let changes = changes_of(alloc, document)?;
+    transact(alloc, meta, changes.as_slice())
 }
 
 // The model of a document that has its shape.
-#[tactic(auto, using(crate::proofs::BuildingLemmas::changes_build, crate::proofs::StopLemmas::fault_of_stop, crate::proofs::RisingLemmas::kept_finished))]
-fn build(alloc: Global, meta: &Metamodel, document: &ModelDocument) -> Result<ListModel, ModelFault>
+#[tactic(auto, using(crate::proofs::StopLemmas::fault_of_stop))]
+fn build(alloc: Global, meta: &Metamodel, document: ModelDocument) -> Result<Store, ModelFault>
     requires sound { IsSound meta.now }
-    requires rises { rise 0 document.now.objects ≡ true }
-    requires few { document.now.next ≤ 1048576 }
-    ensures accepted { IfOk result (λ model. judged meta.now (Some document.now) ≡ Ok model) }
-    ensures kept { IfOk result (λ model. IsKept meta.now model) }
+    requires rises { rise 0 document.objects ≡ true }
+    requires covers { above_all 0 document.objects ≤ document.next }
+    requires few { document.next ≤ 1048576 }
+    ensures accepted { IfOk result (λ store. judged meta.now (Some document) ≡ Ok store.model) }
+    ensures of { IfOk result (λ store. store.meta ≡ meta.now) }
     ensures refused { IfErr result (λ fault.
-        IsFaultOf fault (judged meta.now (Some document.now))) }
+        IsFaultOf fault (judged meta.now (Some document))) }
 {
-    let Ok(changes) = changes_of(alloc, document) else {
-        return Err(ModelFault::NoMemory);
-    };
-    let model = transact(alloc, meta, changes.as_slice())?;
-    Ok(model.with_next(document.next as u32))
+    let next = document.next;
+    let mut store = make(alloc, meta, document)?;
+    store.skip_to(next as u32);
+    Ok(store)
 }
 
 /// The model that bytes spell over a metamodel, or the document's first fault.
-#[tactic(auto, using(crate::proofs::LoadingLemmas::document_rises, crate::proofs::LoadingLemmas::document_few), unfolding(crate::specs::Loading::loaded))]
-pub fn read_model(alloc: Global, meta: &Metamodel, bytes: &[u8]) -> Result<ListStore, ModelFault>
+pub fn read_store(alloc: Global, meta: &Metamodel, bytes: &[u8]) -> Result<Store, ModelFault>
     requires sound { IsSound meta.now }
     ensures accepted { IfOk result (λ store. loaded meta.now bytes.now ≡ Ok store.model) }
     ensures of { IfOk result (λ store. store.meta ≡ meta.now) }
     ensures refused { IfErr result (λ fault. IsFaultOf fault (loaded meta.now bytes.now)) }
 {
-    let value = match parse(alloc, bytes) {
-        Ok(value) => value,
-        Err(JsonFault::NotJson) => return Err(ModelFault::NotJson),
-        Err(JsonFault::NoMemory) => return Err(ModelFault::NoMemory),
-    };
-    match ModelDocument::read(alloc, &value) {
-        Ok(document) => Ok(ListStore::new(meta.share(), build(alloc, meta, &document)?)),
-        Err(ShapeFault::BadShape) => Err(ModelFault::BadShape),
-        Err(ShapeFault::NoMemory) => Err(ModelFault::NoMemory),
-    }
+    let document = document_of(alloc, bytes)?;
+    build(alloc, meta, document)
+}
+
+/// The same, with the model's difference from the empty one.
+pub fn read_model(
+    alloc: Global,
+    meta: &Metamodel,
+    bytes: &[u8],
+) -> Result<(Store, BaseDelta), ModelFault>
+    requires sound { IsSound meta.now }
+    ensures accepted { IfOk result (λ read. loaded meta.now bytes.now ≡ Ok read.0.model) }
+    ensures of { IfOk result (λ read. read.0.meta ≡ meta.now) }
+    ensures delta { IfOk result (λ read. IsFromEmpty (base_of read.0.meta read.0.model) read.1) }
+    ensures refused { IfErr result (λ fault. IsFaultOf fault (loaded meta.now bytes.now)) }
+{
+    let store = read_store(alloc, meta, bytes)?;
+    let delta = from_empty(alloc, &store)?;
+    Ok((store, delta))
 }

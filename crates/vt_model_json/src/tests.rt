@@ -1,13 +1,16 @@
-//! Documents with the answer that each must give, and what a store answers.
+//! Documents with the answer that each must give, and the rows of the models that they make.
 ghost use Rattle.std.specs.Prelude.{IfOk};
 ghost use Rattle.vt_meta.specs.Sound.{IsSound};
+ghost use Rattle.vt_meta.specs.Base.{base_of};
+ghost use Rattle.vt_model_json.specs.Difference.{IsFromEmpty};
 
-use crate::{ListStore, ModelFault, read_model, write_model};
+use crate::{ModelFault, read_model, write_model};
 use std::alloc::Global;
 use std::process::Abort;
 use std::test::Fail;
-use vt_base::List;
+use vt_base::{BaseDelta, List};
 use vt_meta::{Metamodel, Refusal, read_meta};
+use vt_store::Store;
 
 mod faults;
 mod plain;
@@ -21,15 +24,17 @@ fn metamodel(alloc: Global, text: &str) -> Result<Metamodel, Fail>
     Ok(read_meta(alloc, text.as_bytes())?)
 }
 
-// The model that a document makes of a metamodel.
-fn store_of(alloc: Global, meta: &str, text: &str) -> Result<ListStore, Fail> {
+// The model that a document makes of a metamodel, and what is new in it.
+fn read(alloc: Global, meta: &str, text: &str) -> Result<(Store, BaseDelta), Fail>
+    ensures { IfOk result (λ read. IsFromEmpty (base_of read.0.meta read.0.model) read.1) }
+{
     let meta = metamodel(alloc, meta)?;
     Ok(read_model(alloc, &meta, text.as_bytes())?)
 }
 
 // The text of the model that a document makes.
 fn dump_of(alloc: Global, meta: &str, text: &str) -> Result<List<u8>, Fail> {
-    let store = store_of(alloc, meta, text)?;
+    let (store, _) = read(alloc, meta, text)?;
     Ok(write_model(alloc, &store)?)
 }
 

@@ -1,8 +1,7 @@
 -- An outcome before its text is written.
-use Rattle.std.specs.Prelude.{◌≡◌, ◌⊎◌, ℕ, List, Option, Result, Ok, Err}
+use Rattle.std.specs.Prelude.{◌≡◌, ◌⊎◌, ℕ, Result, Ok, Err}
 use Rattle.vt_outside.specs.Faults.{Rose}
 use Rattle.vt_cli.specs.Lines.{unreadable_line}
-use Rattle.vt_cli.specs.Result.{IsDueTo}
 use Rattle.vt_cli.specs.declared.ending.Role.{Role}
 use Rattle.vt_cli.specs.declared.ending.Ending.{Ending}
 use Rattle.vt_cli.specs.declared.ending.Ending.TheVariants.{Done, BadInput, Missing, TooLarge, ReadFault, NoMemory, WriteFault}
