@@ -1,4 +1,4 @@
--- what the contracts say, in reading order
+-- for a reader of the contracts, from the top
 pub mod Room
 pub mod Order
 pub mod Rows
@@ -6,5 +6,5 @@ pub mod Aggregate
 pub mod Base
 pub mod Names
 pub mod Written
--- what the functions inside the crate promise each other
+-- for the crate alone
 pub mod Inside

@@ -1,6 +1,6 @@
 //! The words that every other crate speaks: texts, lists, values, rows, and how a value is printed.
 //!
-//! It stands on `vt_shared`, and prints by `serde_json` and `itoa`. Read `specs/Room.antt`,
+//! It stands on `vt_shared`, keeps short tuples by `smallvec`, and prints by `serde_json` and `itoa`. Read `specs/Room.antt`,
 //! `specs/Order.antt`, `specs/Rows.antt`, `specs/Aggregate.antt`, `specs/Base.antt`, `specs/Names.antt`, then
 //! `specs/Written.antt`.
 #![tactic(auto)]
@@ -23,6 +23,8 @@ mod tuple;
 // What queries ask a model for, and how it changed.
 mod base;
 mod delta;
+// Activations of rules, and how an agenda picks one.
+mod agenda;
 // Printing.
 mod names;
 mod writing;
@@ -49,6 +51,8 @@ pub use tuple::Tuple;
 // What queries ask a model for, and how it changed.
 pub use base::Base;
 pub use delta::{BaseDelta, Delta};
+// Activations of rules, and how an agenda picks one.
+pub use agenda::{Policy, State};
 // Printing.
 pub use names::Names;
 pub use writing::{write_tuple, write_value};

@@ -2,8 +2,8 @@
 ghost use Rattle.std.specs.Prelude.{◌≡◌, IfOk};
 
 use crate::{
-    AggKind, AttrId, ClassId, Kind, List, NoMemory, ObjId, PatternId, RefId, RuleId, Text, Tuple,
-    Value,
+    AggKind, AttrId, ClassId, Kind, List, NoMemory, ObjId, PatternId, Policy, RefId, RuleId, State,
+    Text, Tuple, Value,
 };
 use std::alloc::Global;
 
@@ -98,6 +98,18 @@ impl Plain for AggKind {
     }
 }
 
+impl Plain for State {
+    fn copy(&self, _alloc: Global) -> Result<State, NoMemory> {
+        Ok(*self)
+    }
+}
+
+impl Plain for Policy {
+    fn copy(&self, _alloc: Global) -> Result<Policy, NoMemory> {
+        Ok(*self)
+    }
+}
+
 impl Plain for Text {
     fn copy(&self, _alloc: Global) -> Result<Text, NoMemory> {
         Ok(self.share())
@@ -106,13 +118,7 @@ impl Plain for Text {
 
 impl Plain for Value {
     fn copy(&self, _alloc: Global) -> Result<Value, NoMemory> {
-        match self {
-            Value::Bool(b) => Ok(Value::Bool(*b)),
-            Value::Int(n) => Ok(Value::Int(*n)),
-            Value::Text(text) => Ok(Value::Text(text.share())),
-            Value::Enum(e, l) => Ok(Value::Enum(*e, *l)),
-            Value::Obj(o) => Ok(Value::Obj(*o)),
-        }
+        Ok(self.share())
     }
 }
 

@@ -1,15 +1,16 @@
-// A counter of steps that takes no bytes.
+// Steps that contracts count and a running program doesn't.
 ghost use Rattle.std.specs.Prelude.{◌≡◌, ◌+◌, ◌<◌};
 
 use std::marker::Model;
 use std::sync::ledger::{Blank, Book, Ledger, Share};
 
-/// How many steps were taken; contracts see the number. Only `tick` changes it, and the program
-/// keeps nothing of it. It is there so that a contract can bound the work of a call.
+/// The steps that were taken, as a number that contracts see: with it a clause can say how much
+/// work a call does. What one step is, is for the code that calls `tick`. No byte of the program
+/// holds the number.
 #[derive(Drop)]
 pub struct Steps<L: Ledger> {
-    book: Book<L>,
-    share: Share<L>,
+    taken: Book<L>,
+    held: Share<L>,
 }
 
 impl<L: Ledger> Model for Steps<L> {
@@ -17,27 +18,27 @@ impl<L: Ledger> Model for Steps<L> {
 
     ghost Value = { ℕ };
 
-    ghost view = { λ s. s.book.total };
+    ghost view = { λ s. s.taken.total };
 
-    ghost invariant = { λ s. 0 < s.share.parts };
+    ghost invariant = { λ s. 0 < s.held.parts };
 }
 
 impl<L: Ledger> Steps<L> {
-    /// A counter at 0, of a ledger that nobody has opened.
+    /// No step yet. It uses up the blank, so two counters can't share one ledger.
     pub fn new(blank: Blank) -> Steps<L>
         requires name { blank.name ≡ L.name }
         requires parts { blank.parts ≡ L.parts }
         requires some { 0 < blank.parts }
         ensures { result ≡ 0 }
     {
-        let (book, share) = blank.open();
-        Steps { book, share }
+        let (taken, held) = blank.open();
+        Steps { taken, held }
     }
 
-    /// Counts one step.
+    /// One step more.
     pub fn tick(&mut self)
         ensures { self.new ≡ self.old + 1 }
     {
-        self.book.add(&mut self.share, 1);
+        self.taken.add(&mut self.held, 1);
     }
 }

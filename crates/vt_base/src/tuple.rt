@@ -1,5 +1,5 @@
 // Tuples of values.
-ghost use Rattle.std.specs.Prelude.{◌≡◌, ◌↔◌, [], IfOk, IsTrue, length, slice_get, refl};
+ghost use Rattle.std.specs.Prelude.{◌≡◌, ◌↔◌, ◌≤◌, [], IfOk, IsOk, IsTrue, length, slice_get, refl};
 ghost use Rattle.std.specs.Option.{option_copied};
 ghost use Rattle.std.specs.Ordering.{eq_by_cmp, as_partial_cmp};
 ghost use Rattle.std.specs.Cmp.{partial_equiv_from_equiv, partial_order_from_total};
@@ -7,8 +7,8 @@ ghost use Rattle.std.proofs.lemmas.Cmp.{eq_by_cmp_equiv};
 ghost use Rattle.vt_base.specs.Order.{tuple_cmp};
 ghost use Rattle.vt_base.specs.Inside.OrderLaws.{IsTotalOrder-tuple_cmp};
 
-use crate::plain::copy_all;
-use crate::{List, NoMemory, Value};
+use crate::{NoMemory, Value};
+use smallvec::SmallVec;
 use std::alloc::Global;
 use std::cmp::Ordering;
 use std::marker::Model;
@@ -17,7 +17,7 @@ use std::marker::Model;
 /// Tuples are ordered value by value.
 #[derive(Debug, Drop)]
 pub struct Tuple {
-    values: List<Value>,
+    values: SmallVec<Value, 4>,
 }
 
 impl Model for Tuple {
@@ -26,24 +26,30 @@ impl Model for Tuple {
 
     ghost Value = { List Item };
 
-    ghost view = { λ t. t.values };
+    ghost view = { λ t. t.values.items };
 }
 
 impl Tuple {
     /// A tuple of its own, with these values. Texts in it are shared.
     pub fn from_slice(alloc: Global, values: &[Value]) -> Result<Tuple, NoMemory>
-        ensures { IfOk result (λ t. t ≡ values.now) }
+        ensures made { IfOk result (λ t. t ≡ values.now) }
+
+        // Up to four values take no memory.
+        ensures succeeds { length values.now ≤ 4 → IsOk result }
     {
-        Ok(Tuple {
-            values: copy_all(alloc, values)?,
-        })
+        let mut shared = SmallVec::new(alloc);
+        shared.reserve(values.len())?;
+        for value in values {
+            shared.push_reserved(value.share());
+        }
+        Ok(Tuple { values: shared })
     }
 
     /// The value at a place, counted from 0. `None` is of a place past the end alone.
     pub fn get(&self, i: usize) -> Option<&Value>
         ensures { option_copied result ≡ slice_get self.now i }
     {
-        self.values.get(i)
+        self.as_slice().get(i)
     }
 
     pub fn len(&self) -> usize
@@ -68,7 +74,7 @@ impl Tuple {
     pub fn compare(&self, other: &Tuple) -> Ordering
         ensures { result ≡ tuple_cmp self.now other.now }
     {
-        self.values.as_slice().cmp(other.values.as_slice())
+        self.as_slice().cmp(other.as_slice())
     }
 }
 
