@@ -236,7 +236,7 @@ fn a_piece_is_written_by_as_many_writes_as_it_takes(rt: HostRuntime) -> Result<(
         (3, 3, ErrorKind::OutOfMemory, 8, no_room, 6),
         (65_536, 2, ErrorKind::StorageFull, MANY, failed, 65_536),
     ] {
-        let piece = &text.as_slice()[..length];
+        let piece = text.as_slice().get(..length).unwrap_or(&[]);
         let screen = Screen {
             step,
             failing,
