@@ -1,8 +1,8 @@
--- what the contracts say, in reading order
+-- what is promised to callers: read these from the top
 pub mod Faults
 pub mod Shelf
 pub mod Sink
 pub mod Memory
 pub mod Device
--- what the functions inside the crate promise each other
+-- words of private contracts
 pub mod Inside
