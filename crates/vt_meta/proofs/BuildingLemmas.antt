@@ -8,32 +8,28 @@ use Rattle.std.proofs.lemmas.List.Elements.{All-nil, All-cons, All-append, All-m
 use Rattle.std.proofs.lemmas.List.Sums.{sum_by-cons}
 use Rattle.vt_base.specs.declared.numbers.ClassId.{ClassId}
 use Rattle.vt_base.specs.declared.numbers.RefId.{RefId}
-use Rattle.vt_meta.specs.Metamodel.{Metamodel, is_within, isa}
+use Rattle.vt_model.specs.Metamodel.{Metamodel, is_within, isa}
 use Rattle.vt_meta.specs.Declarations.{supers_in}
 use Rattle.vt_meta.specs.Built.{Declared, declared_by, metamodel_of, attributes_from, references_from, reference_number, enum_info, class_info, attr_info, ref_info}
 use Rattle.vt_meta.specs.Faults.{above, or_else, feature_count, too_great}
-use Rattle.vt_meta.specs.Inside.Places.{FindsEnum, FindsClass}
-use Rattle.vt_meta.specs.Inside.Above.{ids, supers_places, AreThere}
-use Rattle.vt_meta.specs.Inside.FeatureTable.{FindsFeatures, AreFeatures}
-use Rattle.vt_meta.specs.Inside.Tables.{as_metamodel, above_table, is_marked, FindsEnumInfo, FindsClassInfo, MarksAbove}
+use Rattle.vt_meta.specs.Inside.Above.{supers_places}
+use Rattle.vt_model.specs.Above.{ids, AreThere}
+use Rattle.vt_model.specs.Metamodel.{as_metamodel}
+use Rattle.vt_model.specs.Sound.{IsSound}
 use Rattle.vt_meta.specs.Inside.Building.{declaration, declarations_from, is_declaration, number_in}
-use Rattle.vt_meta.specs.declared.places.Places.{Places}
-use Rattle.vt_meta.specs.declared.features.Features.{Features}
-use Rattle.vt_meta.specs.declared.metamodel.Lists.{Lists}
-use Rattle.vt_meta.specs.declared.metamodel.AttrInfo.{AttrInfo}
-use Rattle.vt_meta.specs.declared.metamodel.RefInfo.{RefInfo}
-use Rattle.vt_meta.specs.declared.metamodel.EnumInfo.{EnumInfo}
-use Rattle.vt_meta.specs.declared.metamodel.ClassInfo.{ClassInfo}
+use Rattle.vt_model.specs.declared.metamodel.Lists.{Lists}
+use Rattle.vt_model.specs.declared.metamodel.AttrInfo.{AttrInfo}
+use Rattle.vt_model.specs.declared.metamodel.RefInfo.{RefInfo}
+use Rattle.vt_model.specs.declared.metamodel.EnumInfo.{EnumInfo}
+use Rattle.vt_model.specs.declared.metamodel.ClassInfo.{ClassInfo}
 use Rattle.vt_meta.specs.declared.building.Declaration.{Declaration}
 use Rattle.vt_meta.specs.declared.document.EnumDocument.{EnumDocument}
 use Rattle.vt_meta.specs.declared.document.ClassDocument.{ClassDocument}
 use Rattle.vt_meta.specs.declared.document.AttributeDocument.{AttributeDocument}
 use Rattle.vt_meta.specs.declared.document.ReferenceDocument.{ReferenceDocument}
 use Rattle.vt_meta.specs.declared.document.MetamodelDocument.{MetamodelDocument}
-use Rattle.vt_meta.proofs.PositionLemmas.{position-map}
+use Rattle.vt_model.proofs.PositionLemmas.{position-map}
 use Rattle.vt_meta.proofs.SupersLemmas.{length-supers_places, length_supers, there_supers, ids_supers_places}
-use Rattle.vt_meta.proofs.TableLemmas.{table_marks, alone}
-use Rattle.vt_meta.proofs.FeatureLemmas.{finds_features}
 
 -- ---- opposites
 
@@ -120,27 +116,9 @@ module _ (document : MetamodelDocument) (e : too_great document ≡ None) where
       (λ l all. All-weaker (λ place. place < length (supers_places document)) (λ place. place < 1024) (λ place below. omega arith) l all)
       (supers_places document) (there_supers document))
 
--- ---- names
+-- ---- classes that are there
 
-pub finds_enum_infos : (document : MetamodelDocument) (p : Places) → FindsEnum document.enums p → FindsEnumInfo (map enum_info document.enums) p
-finds_enum_infos document p finds name = finds name ∙ sym (position-map enum_info (λ (i : EnumInfo). pointwise nat_eq i.name name) document.enums)
-
-pub finds_class_infos : (document : MetamodelDocument) (p : Places) → FindsClass document.classes p → FindsClassInfo (map class_info document.classes) p
-finds_class_infos document p finds name = finds name ∙ sym (position-map class_info (λ (i : ClassInfo). pointwise nat_eq i.name name) document.classes)
-
--- ---- classes above classes
-
-pub marks_supers : (document : MetamodelDocument) (supers : List (List ℕ)) (rows : List (List Bool)) → supers ≡ supers_places document → rows ≡ above_table supers
-    → MarksAbove (supers_in document) (length (map class_info document.classes)) rows
-marks_supers document supers rows is made =
-    let there : AreThere supers = subst AreThere (sym is) (there_supers document) in
-    let numbers : ids supers ≡ supers_in document = ap ids is ∙ ids_supers_places document in
-    let count : length supers ≡ length (map class_info document.classes) = length_supers document supers is ∙ sym (length-map document.classes class_info) in
-    λ c d. ap (λ rows. is_marked rows c.0 d.0) made ∙ table_marks supers there c d ∙ (λ i. is_within (numbers i) (count i) c d)
-
--- ---- features
-
-attributes_below : (n : ℕ) (cs : List ClassDocument) → All (λ (d : Declared AttributeDocument). d.class.0 < n + length cs) (attributes_from n cs)
+pub attributes_below : (n : ℕ) (cs : List ClassDocument) → All (λ (d : Declared AttributeDocument). d.class.0 < n + length cs) (attributes_from n cs)
 attributes_below n [] = All-nil (λ (d : Declared AttributeDocument). d.class.0 < n + 0)
 attributes_below n (c ∷ cs) =
     let rest : All (λ (d : Declared AttributeDocument). d.class.0 < n + 1 + length cs) (attributes_from (n + 1) cs) = attributes_below (n + 1) cs in
@@ -148,7 +126,7 @@ attributes_below n (c ∷ cs) =
     (All-map (λ (d : Declared AttributeDocument). d.class.0 < n + length (c ∷ cs)) (λ (f : AttributeDocument). record { class = record { 0 = n }; feature = f }) c.attributes (λ k f _. omega arith))
     (All-weaker (λ (d : Declared AttributeDocument). d.class.0 < n + 1 + length cs) (λ (d : Declared AttributeDocument). d.class.0 < n + length (c ∷ cs)) (λ d below. omega arith) (attributes_from (n + 1) cs) rest)
 
-references_below : (n : ℕ) (cs : List ClassDocument) → All (λ (d : Declared ReferenceDocument). d.class.0 < n + length cs) (references_from n cs)
+pub references_below : (n : ℕ) (cs : List ClassDocument) → All (λ (d : Declared ReferenceDocument). d.class.0 < n + length cs) (references_from n cs)
 references_below n [] = All-nil (λ (d : Declared ReferenceDocument). d.class.0 < n + 0)
 references_below n (c ∷ cs) =
     let rest : All (λ (d : Declared ReferenceDocument). d.class.0 < n + 1 + length cs) (references_from (n + 1) cs) = references_below (n + 1) cs in
@@ -156,27 +134,7 @@ references_below n (c ∷ cs) =
     (All-map (λ (d : Declared ReferenceDocument). d.class.0 < n + length (c ∷ cs)) (λ (f : ReferenceDocument). record { class = record { 0 = n }; feature = f }) c.references (λ k f _. omega arith))
     (All-weaker (λ (d : Declared ReferenceDocument). d.class.0 < n + 1 + length cs) (λ (d : Declared ReferenceDocument). d.class.0 < n + length (c ∷ cs)) (λ d below. omega arith) (references_from (n + 1) cs) rest)
 
-module _ (document : MetamodelDocument) (supers : List (List ℕ)) (rows : List (List Bool)) (is : supers ≡ supers_places document) (made : rows ≡ above_table supers) where
-  abbrev meta : Metamodel
-  meta = metamodel_of document
+-- ---- the lists
 
-  outside : (c d : ClassId) → length meta.classes ≤ c.0 → d.0 < length meta.classes → isa meta c d ≡ false
-  outside c d past below =
-      let there : AreThere supers = subst AreThere (sym is) (there_supers document) in
-      let numbers : ids supers ≡ supers_in document = ap ids is ∙ ids_supers_places document in
-      let count : length supers ≡ length meta.classes = length_supers document supers is ∙ sym (length-map document.classes class_info) in
-      let other : nat_eq c.0 d.0 ≡ false = ne_eqb c.0 d.0 (λ e. omega arith) in
-      (λ i. is_within (sym numbers i) (sym count i) c d) ∙ sym (alone supers there c d (omega arith)) ∙ other
-
-  finds : (f : Features) → AreFeatures meta.attributes meta.references rows (length meta.classes) f → FindsFeatures meta f
-  finds f are =
-      let count : 0 + length document.classes ≡ length meta.classes = simp length-map (omega arith) in
-      finds_features meta rows (length meta.classes) f are (marks_supers document supers rows is made) outside
-      (All-map (λ (a : AttrInfo). a.class.0 < length meta.classes) (attr_info document) (attributes_from 0 document.classes)
-      (subst (λ n. All (λ (d : Declared AttributeDocument). d.class.0 < n) (attributes_from 0 document.classes)) count (attributes_below 0 document.classes)))
-      (All-map (λ (r : RefInfo). r.class.0 < length meta.classes) (ref_info document) (references_from 0 document.classes)
-      (subst (λ n. All (λ (d : Declared ReferenceDocument). d.class.0 < n) (references_from 0 document.classes)) count (references_below 0 document.classes)))
-
-  pub features_found : (lists : Lists) (f : Features) → as_metamodel lists ≡ metamodel_of document → AreFeatures lists.attributes lists.references rows (length lists.classes) f → FindsFeatures (as_metamodel lists) f
-  features_found lists f same are =
-      subst (λ (m : Metamodel). FindsFeatures m f) (sym same) (finds f (subst (λ (m : Metamodel). AreFeatures m.attributes m.references rows (length m.classes) f) same are))
+pub sound_lists : (lists : Lists) (document : MetamodelDocument) → as_metamodel lists ≡ metamodel_of document → IsSound (metamodel_of document) → IsSound (as_metamodel lists)
+sound_lists lists document same sound = subst IsSound (sym same) sound

@@ -10,21 +10,23 @@ use Rattle.std.proofs.lemmas.List.Sums.{sum_by-cons}
 use Rattle.std.proofs.lemmas.List.Elements.{filter-append, All-head, All-tail}
 use Rattle.std.proofs.lemmas.Map.Keys.{IsDistinct-head, IsDistinct-tail}
 use Rattle.vt_base.specs.declared.numbers.ClassId.{ClassId}
-use Rattle.vt_meta.specs.Metamodel.{isa, is_within, feature_names}
-use Rattle.vt_meta.specs.Declarations.{is_name, is_distinct, declared_names, supers_in}
+use Rattle.vt_model.specs.Metamodel.{isa, is_within, feature_names}
+use Rattle.vt_meta.specs.Declarations.{declared_names, supers_in}
+use Rattle.vt_model.specs.Words.{is_name, is_distinct}
 use Rattle.vt_meta.specs.Built.{Declared, declared_by, attributes_from, references_from, attr_info, ref_info, class_info, metamodel_of}
 use Rattle.vt_meta.specs.Faults.{has_clash}
-use Rattle.vt_meta.specs.Inside.Above.{class_id, ids, supers_places, is_above_any, IsAbove}
+use Rattle.vt_meta.specs.Inside.Above.{supers_places}
+use Rattle.vt_model.specs.Above.{class_id, ids, is_above_any, IsAbove}
 use Rattle.vt_meta.specs.Inside.Features.{names_at, names_at_each}
-use Rattle.vt_meta.specs.declared.metamodel.AttrInfo.{AttrInfo}
-use Rattle.vt_meta.specs.declared.metamodel.RefInfo.{RefInfo}
+use Rattle.vt_model.specs.declared.metamodel.AttrInfo.{AttrInfo}
+use Rattle.vt_model.specs.declared.metamodel.RefInfo.{RefInfo}
 use Rattle.vt_meta.specs.declared.document.ClassDocument.{ClassDocument}
 use Rattle.vt_meta.specs.declared.document.AttributeDocument.{AttributeDocument}
 use Rattle.vt_meta.specs.declared.document.ReferenceDocument.{ReferenceDocument}
 use Rattle.vt_meta.specs.declared.document.MetamodelDocument.{MetamodelDocument}
-use Rattle.vt_meta.proofs.PlacesLemmas.{same_name, is_name-itself}
+use Rattle.vt_model.proofs.PlacesLemmas.{same_name, is_name-itself}
 use Rattle.vt_meta.proofs.SupersLemmas.{ids_supers_places, length-supers_places, length_supers}
-use Rattle.vt_meta.proofs.AboveLemmas.{same_bool}
+use Rattle.vt_model.proofs.AboveLemmas.{same_bool}
 
 -- ---- how often a name stands in a list
 

@@ -2,15 +2,16 @@
 use Rattle.std.proofs.Common.{◌≡◌, ℕ, ◌+◌, List, [], ◌∷◌, ◌++◌, length, map, get_or, take, refl, sym, ap, subst, ◌∙◌, arith}
 use Rattle.std.specs.Prelude.{◌<◌, ◌||◌, position, is_some}
 use Rattle.std.proofs.lemmas.List.{length-append, length-map, get_or-map, get_or_append_left, get_or-append-add}
-use Rattle.vt_meta.specs.Declarations.{is_name, is_kind_name, item_names}
+use Rattle.vt_meta.specs.Declarations.{is_kind_name, item_names}
+use Rattle.vt_model.specs.Words.{is_name}
 use Rattle.vt_meta.specs.Faults.{is_taken}
-use Rattle.vt_meta.specs.Inside.Places.{place_in, FindsIn, AddsPlace}
-use Rattle.vt_meta.specs.declared.places.Places.{Places}
+use Rattle.vt_model.specs.Places.{place_in, FindsIn, AddsPlace}
+use Rattle.vt_model.specs.declared.places.Places.{Places}
 use Rattle.vt_meta.specs.declared.document.EnumDocument.{EnumDocument}
 use Rattle.vt_meta.specs.declared.document.ClassDocument.{ClassDocument}
 use Rattle.vt_meta.specs.declared.document.MetamodelDocument.{MetamodelDocument}
-use Rattle.vt_meta.proofs.DistinctLemmas.{is_some-position}
-use Rattle.vt_meta.proofs.PlacesLemmas.{FindsIn_more}
+use Rattle.vt_model.proofs.DistinctLemmas.{is_some-position}
+use Rattle.vt_model.proofs.PlacesLemmas.{FindsIn_more}
 
 abbrev enum_name : EnumDocument → List ℕ
 enum_name e = e.name

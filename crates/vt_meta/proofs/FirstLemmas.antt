@@ -1,7 +1,8 @@
 -- The first place at which a test holds, step by step.
-use Rattle.std.proofs.Common.{◌≡◌, ℕ, zero, suc, ◌+◌, List, [], ◌∷◌, length, get_or, drop, refl, sym, ap, ◌∙◌, cond, Bool, true, false, arith}
-use Rattle.std.specs.Prelude.{◌<◌, ◌≤◌, Option, Some, None, option_map}
+use Rattle.std.proofs.Common.{◌≡◌, ℕ, zero, suc, ◌+◌, List, [], ◌∷◌, length, get_or, drop, refl, sym, ap, subst, ◌∙◌, cond, Bool, true, false, arith}
+use Rattle.std.specs.Prelude.{◌<◌, ◌≤◌, slice_get, Option, Some, None, option_map}
 use Rattle.std.proofs.lemmas.List.{at_drop_more, at_drop_all}
+use Rattle.std.proofs.lemmas.Option.{same_Some}
 use Rattle.vt_meta.specs.Faults.{first_place, at_class}
 use Rattle.vt_meta.specs.declared.document.ClassDocument.{ClassDocument}
 use Rattle.vt_meta.specs.declared.document.MetamodelDocument.{MetamodelDocument}
@@ -18,6 +19,22 @@ module _ {X : Type 0} (test : ℕ → X → Bool) (xs : List X) (n i : ℕ) (x :
 
 pub first_place_end : {X : Type 0} (test : ℕ → X → Bool) (xs : List X) (n i : ℕ) → length xs ≤ i → first_place test n (drop i xs) ≡ None
 first_place_end test xs n i past = at_drop_all (first_place test n) xs i past
+
+-- where no item passes with its number, this one doesn't
+pub first_place-at : {X : Type 0} (test : ℕ → X → Bool) (n : ℕ) (xs : List X) (i : ℕ) (x : X)
+    → first_place test n xs ≡ None → slice_get xs i ≡ Some x → test (n + i) x ≡ false
+first_place-at test n [] i x none e = cc
+first_place-at {X} test n (y ∷ xs) i x none e = by (λ j later. first_place-at test (n + 1) xs j x later) (test n y) refl none i e
+  where
+    by : ((j : ℕ) → first_place test (n + 1) xs ≡ None → slice_get xs j ≡ Some x → test (n + 1 + j) x ≡ false)
+        → (b : Bool) → test n y ≡ b → cond b (Some n) (first_place test (n + 1) xs) ≡ None → (i : ℕ) → slice_get (y ∷ xs) i ≡ Some x → test (n + i) x ≡ false
+    by rest true passes none i e = cc
+    by rest false fails none zero e =
+        let here : n ≡ n + 0 = omega arith in
+        subst (λ m. test m x ≡ false) here (subst (λ z. test n z ≡ false) (same_Some y x e) fails)
+    by rest false fails none (suc j) e =
+        let here : n + 1 + j ≡ n + suc j = omega arith in
+        subst (λ m. test m x ≡ false) here (rest j none e)
 
 -- ---- the first class, by its place behind the enums
 

@@ -1,5 +1,4 @@
 -- A metamodel that is read is sound.
-pub mod Places
 pub mod Flat
 pub mod Shapes
 pub mod Faultless
@@ -7,26 +6,34 @@ pub mod Kinds
 pub mod Answered
 pub mod Opposites
 use Rattle.std.proofs.Common.{◌≡◌, ℕ, List, length, refl, ap, subst, ◌∙◌, arith, true}
-use Rattle.std.specs.Prelude.{◌<◌, slice_get, Option, Some, None, Ok}
+use Rattle.std.specs.Prelude.{◌<◌, All, map, slice_get, Option, Some, None, Ok}
 use Rattle.std.proofs.lemmas.Bool.{not-false}
 use Rattle.std.proofs.lemmas.List.{length-map}
+use Rattle.std.proofs.lemmas.List.Elements.{All-map, All-weaker}
 use Rattle.serde_json.specs.Data.{Data}
 use Rattle.vt_base.specs.declared.numbers.AttrId.{AttrId}
 use Rattle.vt_base.specs.declared.numbers.ClassId.{ClassId}
 use Rattle.vt_base.specs.declared.numbers.RefId.{RefId}
 use Rattle.vt_json.specs.Json.{json_of}
-use Rattle.vt_meta.specs.Metamodel.{Metamodel, feature_names}
+use Rattle.vt_model.specs.Metamodel.{Metamodel, feature_names}
 use Rattle.vt_meta.specs.Document.{document_shape}
-use Rattle.vt_meta.specs.Declarations.{is_distinct}
-use Rattle.vt_meta.specs.Built.{metamodel_of, attributes_from, references_from, attr_info, ref_info, class_info}
+use Rattle.vt_model.specs.Words.{is_distinct}
+use Rattle.vt_meta.specs.Declarations.{class_number, supers_in}
+use Rattle.vt_meta.specs.Inside.Above.{supers_places}
+use Rattle.vt_meta.specs.Built.{Declared, metamodel_of, attributes_from, references_from, attr_info, ref_info, class_info}
 use Rattle.vt_meta.specs.Faults.{Fault, first_fault}
 use Rattle.vt_meta.specs.Reading.{unless_faulty, judged, shaped, meta_of}
-use Rattle.vt_meta.specs.Sound.{IsAttributeKind, Answers, IsSound}
+use Rattle.vt_model.specs.Sound.{IsAttributeKind, Answers, IsSound}
+use Rattle.vt_meta.specs.declared.document.AttributeDocument.{AttributeDocument}
+use Rattle.vt_meta.specs.declared.document.ReferenceDocument.{ReferenceDocument}
 use Rattle.vt_meta.specs.declared.document.MetamodelDocument.{MetamodelDocument}
-use Rattle.vt_meta.specs.declared.metamodel.AttrInfo.{AttrInfo}
-use Rattle.vt_meta.specs.declared.metamodel.RefInfo.{RefInfo}
-use Rattle.vt_meta.proofs.Sound.Places.{slice_get-from_map, slice_get-below}
-use Rattle.vt_meta.proofs.Sound.Shapes.{HasLiterals, HasLiterals-document_shape}
+use Rattle.vt_model.specs.declared.metamodel.AttrInfo.{AttrInfo}
+use Rattle.vt_model.specs.declared.metamodel.RefInfo.{RefInfo}
+use Rattle.vt_model.proofs.SearchLemmas.{slice_get-from_map, slice_get-below}
+use Rattle.vt_meta.specs.Inside.Literals.{HasLiterals}
+use Rattle.vt_meta.proofs.BuildingLemmas.{attributes_below, references_below}
+use Rattle.vt_meta.proofs.SupersLemmas.{length-supers_places, place_below, there_supers, ids_supers_places}
+use Rattle.vt_meta.proofs.Sound.Shapes.{HasLiterals-document_shape}
 use Rattle.vt_meta.proofs.Sound.Faultless.{IsFaultless, IsFaultless-first_fault}
 use Rattle.vt_meta.proofs.Sound.Kinds.{IsAttributeKind-kind_named}
 use Rattle.vt_meta.proofs.Sound.Answered.{IsPaired-opposite}
@@ -55,11 +62,58 @@ module _ (document : MetamodelDocument) where
       let at = slice_get-below document.classes c.0 (omega (arith, below, long)) in
       not-false (is_distinct (feature_names (metamodel_of document) c)) (fine.features c.0 at.0 at.1)
 
+  -- ---- classes that are there
+
+  abbrev count : ℕ
+  count = length (metamodel_of document).classes
+
+  same_count : count ≡ length document.classes
+  same_count = length-map document.classes class_info
+
+  one_list-metamodel_of : length (supers_in document) ≡ count
+  one_list-metamodel_of = length-map document.classes (λ c. map (class_number document) c.supers) ∙ sym same_count
+
+  supers-metamodel_of : All (All (λ (e : ClassId). e.0 < count)) (supers_in document)
+  supers-metamodel_of =
+      let many : length (supers_places document) ≡ count = length-supers_places document ∙ sym same_count in
+      subst (λ n. All (All (λ (e : ClassId). e.0 < n)) (supers_in document)) many
+      (subst (All (All (λ (e : ClassId). e.0 < length (supers_places document)))) (ids_supers_places document)
+      (there-ids (supers_places document) (there_supers document)))
+
+  owners-metamodel_of : All (λ (a : AttrInfo). a.class.0 < count) (metamodel_of document).attributes
+  owners-metamodel_of = All-map (λ (a : AttrInfo). a.class.0 < count) (attr_info document) (attributes_from 0 document.classes)
+      (subst (λ n. All (λ (d : Declared AttributeDocument). d.class.0 < n) (attributes_from 0 document.classes)) (sym same_count) (attributes_below 0 document.classes))
+
+  sources-metamodel_of : All (λ (r : RefInfo). r.class.0 < count) (metamodel_of document).references
+  sources-metamodel_of = All-map (λ (r : RefInfo). r.class.0 < count) (ref_info document) (references_from 0 document.classes)
+      (subst (λ n. All (λ (d : Declared ReferenceDocument). d.class.0 < n) (references_from 0 document.classes)) (sym same_count) (references_below 0 document.classes))
+
+  -- where something declares a reference there is a class
+  targets-metamodel_of : All (λ (r : RefInfo). r.target.0 < count) (metamodel_of document).references
+  targets-metamodel_of = All-map (λ (r : RefInfo). r.target.0 < count) (ref_info document) (references_from 0 document.classes)
+      (All-weaker (λ (d : Declared ReferenceDocument). d.class.0 < length document.classes) (λ (d : Declared ReferenceDocument). (class_number document d.feature.target).0 < count)
+      (λ d below. subst (λ n. (class_number document d.feature.target).0 < n) (sym same_count) (place_below document (omega (arith, below)) d.feature.target))
+      (references_from 0 document.classes) (references_below 0 document.classes))
+
+  -- ---- all of it
+
   -- the metamodel of a document that has its shape and no fault is sound
   pub IsSound-metamodel_of : HasLiterals document → first_fault document ≡ None → IsSound (metamodel_of document)
   IsSound-metamodel_of literals none =
       let fine = IsFaultless-first_fault document none in
-      record { kinds = kinds-metamodel_of literals; opposites = opposites-metamodel_of fine; features = features-metamodel_of fine }
+      record {
+        one_list = one_list-metamodel_of;
+        supers = supers-metamodel_of;
+        owners = owners-metamodel_of;
+        sources = sources-metamodel_of;
+        targets = targets-metamodel_of;
+        kinds = kinds-metamodel_of literals;
+        opposites = opposites-metamodel_of fine;
+        features = features-metamodel_of fine;
+      }
+
+pub sound_document : (document : MetamodelDocument) → HasLiterals document → first_fault document ≡ None → IsSound (metamodel_of document)
+sound_document = IsSound-metamodel_of
 
 -- what bytes spell is sound
 pub IsSound-meta_of : (bytes : List ℕ) (meta : Metamodel) → meta_of bytes ≡ Ok meta → IsSound meta

@@ -5,32 +5,17 @@ use Rattle.std.specs.List.{list_any}
 use Rattle.std.proofs.lemmas.List.{append_assoc, at_drop_more, length-map}
 use Rattle.std.proofs.lemmas.List.Elements.{All-map}
 use Rattle.vt_base.specs.declared.numbers.ClassId.{ClassId}
-use Rattle.vt_meta.specs.Metamodel.{supers_of, is_within}
-use Rattle.vt_meta.specs.Declarations.{is_name, class_place, class_number, supers_in}
+use Rattle.vt_model.specs.Metamodel.{supers_of, is_within}
+use Rattle.vt_meta.specs.Declarations.{class_place, class_number, supers_in}
+use Rattle.vt_model.specs.Words.{is_name}
 use Rattle.vt_meta.specs.Faults.{is_above_itself}
-use Rattle.vt_meta.specs.Inside.Above.{class_id, ids, supers_at, supers_places, is_above_any, AreThere}
+use Rattle.vt_meta.specs.Inside.Above.{supers_places}
+use Rattle.vt_model.specs.Above.{class_id, ids, supers_at, is_above_any, AreThere}
+use Rattle.vt_model.proofs.MapLemmas.{map-map, list_any-map}
 use Rattle.vt_meta.specs.declared.document.ClassDocument.{ClassDocument}
 use Rattle.vt_meta.specs.declared.document.MetamodelDocument.{MetamodelDocument}
-use Rattle.vt_meta.proofs.PositionLemmas.{IsAt, IsAt-position}
-use Rattle.vt_meta.proofs.AboveLemmas.{supers_of-ids}
-
--- what is out, and what the rest gives, at a step of a loop
-pub out_more : {A B : Type 0} (f : A → B) (xs : List A) (i : ℕ) (x : A) (out new whole : List B) → i < length xs → x ≡ get_or xs i x → out ++ map f (drop i xs) ≡ whole
-    → new ≡ out ++ f x ∷ [] → new ++ map f (drop (i + 1) xs) ≡ whole
-out_more f xs i x out new whole below at before is =
-    ap (λ l. l ++ map f (drop (i + 1) xs)) is
-    ∙ append_assoc out (f x ∷ []) (map f (drop (i + 1) xs))
-    ∙ ap (λ y. out ++ (f y ∷ map f (drop (i + 1) xs))) at
-    ∙ ap (λ l. out ++ l) (sym (at_drop_more (map f) xs i x below))
-    ∙ before
-
-pub map-map : {A B C : Type 0} (g : B → C) (f : A → B) (xs : List A) → map g (map f xs) ≡ map (λ x. g (f x)) xs
-map-map g f [] = refl
-map-map g f (x ∷ xs) = ap (λ ys. g (f x) ∷ ys) (map-map g f xs)
-
-pub list_any-map : {A B : Type 0} (p : B → Bool) (f : A → B) (xs : List A) → list_any p (map f xs) ≡ list_any (λ x. p (f x)) xs
-list_any-map p f [] = refl
-list_any-map p f (x ∷ xs) = ap (λ b. p (f x) || b) (list_any-map p f xs)
+use Rattle.vt_model.proofs.PositionLemmas.{IsAt, IsAt-position}
+use Rattle.vt_model.proofs.AboveLemmas.{supers_of-ids}
 
 module _ (document : MetamodelDocument) where
   abbrev place : List ℕ → ℕ
@@ -42,7 +27,7 @@ module _ (document : MetamodelDocument) where
   pub length-supers_places : length (supers_places document) ≡ length document.classes
   length-supers_places = length-map document.classes places
 
-  place_below : 0 < length document.classes → (s : List ℕ) → place s < length document.classes
+  pub place_below : 0 < length document.classes → (s : List ℕ) → place s < length document.classes
   place_below some s = by (class_place document s) refl
     where
       by : (r : Option ℕ) → class_place document s ≡ r → unwrap_or r 0 < length document.classes

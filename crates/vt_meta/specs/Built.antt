@@ -3,12 +3,13 @@ use Rattle.std.specs.Prelude.{ℕ, ◌+◌, ◌&&◌, ◌==◌, List, [], ◌∷
 use Rattle.vt_base.specs.declared.value.Kind.TheVariants.{Int}
 use Rattle.vt_base.specs.declared.numbers.ClassId.{ClassId}
 use Rattle.vt_base.specs.declared.numbers.RefId.{RefId}
-use Rattle.vt_meta.specs.Metamodel.{Metamodel}
-use Rattle.vt_meta.specs.Declarations.{is_name, kind_named, class_number, supers_in}
-use Rattle.vt_meta.specs.declared.metamodel.EnumInfo.{EnumInfo}
-use Rattle.vt_meta.specs.declared.metamodel.ClassInfo.{ClassInfo}
-use Rattle.vt_meta.specs.declared.metamodel.AttrInfo.{AttrInfo}
-use Rattle.vt_meta.specs.declared.metamodel.RefInfo.{RefInfo}
+use Rattle.vt_model.specs.Metamodel.{Metamodel}
+use Rattle.vt_meta.specs.Declarations.{kind_named, class_number, supers_in}
+use Rattle.vt_model.specs.Words.{is_name}
+use Rattle.vt_model.specs.declared.metamodel.EnumInfo.{EnumInfo}
+use Rattle.vt_model.specs.declared.metamodel.ClassInfo.{ClassInfo}
+use Rattle.vt_model.specs.declared.metamodel.AttrInfo.{AttrInfo}
+use Rattle.vt_model.specs.declared.metamodel.RefInfo.{RefInfo}
 use Rattle.vt_meta.specs.declared.document.EnumDocument.{EnumDocument}
 use Rattle.vt_meta.specs.declared.document.ClassDocument.{ClassDocument}
 use Rattle.vt_meta.specs.declared.document.AttributeDocument.{AttributeDocument}

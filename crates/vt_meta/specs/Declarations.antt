@@ -1,25 +1,15 @@
 -- What a metamodel document declares, and what its names stand for.
-use Rattle.std.specs.Prelude.{ℕ, ◌+◌, ◌&&◌, ◌||◌, ◌==◌, List, [], ◌∷◌, ◌++◌, map, find, position, codes, Bool, true, false, not, nat_eq, if◌then◌else◌, Option, Some, None, option_map, option_and_then, unwrap_or}
-use Rattle.std.specs.List.{list_any}
-use Rattle.std.specs.Cmp.Lexicographic.{pointwise}
+use Rattle.std.specs.Prelude.{ℕ, ◌+◌, ◌&&◌, ◌||◌, ◌==◌, List, [], ◌∷◌, ◌++◌, map, find, position, codes, Bool, false, not, if◌then◌else◌, Option, Some, None, option_map, option_and_then, unwrap_or}
 use Rattle.vt_base.specs.declared.numbers.ClassId.{ClassId}
 use Rattle.vt_base.specs.declared.value.Kind.{Kind}
 use Rattle.vt_base.specs.declared.value.Kind.TheVariants.{Int, Bool as Boolean, Text, Enum}
+use Rattle.vt_model.specs.Words.{is_name}
 use Rattle.vt_meta.specs.declared.document.EnumDocument.{EnumDocument}
 use Rattle.vt_meta.specs.declared.document.ClassDocument.{ClassDocument}
 use Rattle.vt_meta.specs.declared.document.ReferenceDocument.{ReferenceDocument}
 use Rattle.vt_meta.specs.declared.document.MetamodelDocument.{MetamodelDocument}
 
 -- ---- names
-
--- one name
-abbrev pub is_name : List ℕ → List ℕ → Bool
-is_name a b = pointwise nat_eq a b
-
--- no name stands twice
-abbrev pub is_distinct : List (List ℕ) → Bool
-is_distinct [] = true
-is_distinct (name ∷ names) = not (list_any (λ n. is_name n name) names) && is_distinct names
 
 -- the kinds have names of their own, which no enum or class may have
 abbrev pub is_kind_name : List ℕ → Bool

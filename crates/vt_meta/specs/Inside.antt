@@ -2,7 +2,6 @@
 pub mod Places
 pub mod Above
 pub mod Features
-pub mod Tables
-pub mod FeatureTable
+pub mod Literals
 pub mod Refused
 pub mod Building

@@ -2,7 +2,7 @@
 use Rattle.std.specs.Prelude.{◌≡◌, ℕ, List, Option, Some, None, Result, Ok, Err}
 use Rattle.serde_json.specs.Data.{Data}
 use Rattle.vt_json.specs.Json.{json_of}
-use Rattle.vt_meta.specs.Metamodel.{Metamodel}
+use Rattle.vt_model.specs.Metamodel.{Metamodel}
 use Rattle.vt_meta.specs.Document.{document_shape}
 use Rattle.vt_meta.specs.Built.{metamodel_of}
 use Rattle.vt_meta.specs.Faults.{Fault, not_json, bad_shape, duplicate_name, unknown_type, super_cycle, bad_opposite, bad_containment, feature_clash, too_many, first_fault}

@@ -1,22 +1,23 @@
 // The metamodel that a document makes.
 ghost use Rattle.std.specs.Prelude.{◌≡◌, ◌++◌, ◌≤◌, ◌<◌, ◌&&◌, ◌==◌, IfOk, OnOk, All, None, map, length, position, unwrap_or, option_map, option_and_then};
 ghost use Rattle.vt_base.specs.declared.value.Kind.TheVariants.{Int};
-ghost use Rattle.vt_meta.specs.Declarations.{is_name, kind_named, class_number};
+ghost use Rattle.vt_meta.specs.Declarations.{kind_named, class_number};
+ghost use Rattle.vt_model.specs.Words.{is_name};
 ghost use Rattle.vt_meta.specs.Built.{Declared, declared_by, attributes_from, references_from, reference_number, enum_info, class_info, attr_info, ref_info, metamodel_of};
 ghost use Rattle.vt_meta.specs.Faults.{too_great};
-ghost use Rattle.vt_meta.specs.Inside.Above.{class_id, ids, supers_places};
-ghost use Rattle.vt_meta.specs.Inside.Tables.{as_metamodel};
+ghost use Rattle.vt_meta.specs.Inside.Above.{supers_places};
+ghost use Rattle.vt_model.specs.Above.{class_id, ids};
+ghost use Rattle.vt_model.specs.Metamodel.{as_metamodel};
+ghost use Rattle.vt_model.specs.Sound.{IsSound};
 ghost use Rattle.vt_meta.specs.Inside.Building.{declaration, declarations_from, is_declaration, number_in};
 
-use crate::above::above_table;
 use crate::document::{AttributeDocument, ClassDocument, EnumDocument, ReferenceDocument};
 use crate::duplicates::texts;
-use crate::features::Features;
-use crate::metamodel::{AttrInfo, ClassInfo, EnumInfo, Lists, Metamodel, RefInfo};
 use crate::resolved::Resolved;
 use std::alloc::Global;
 use vt_base::{ClassId, Kind, List, NoMemory, RefId, Text};
 use vt_json::Identifier;
+use vt_model::{AttrInfo, ClassInfo, EnumInfo, Lists, Metamodel, RefInfo};
 
 // A reference by its class and its name.
 #[derive(Drop)]
@@ -296,30 +297,17 @@ fn lists(alloc: Global, resolved: &Resolved, supers: &[List<usize>]) -> Result<L
 }
 
 /// The metamodel of a document whose counts are within the limits.
-#[tactic(auto, using(crate::proofs::BuildingLemmas::few_classes, crate::proofs::BuildingLemmas::few_enums, crate::proofs::BuildingLemmas::few_literals, crate::proofs::BuildingLemmas::few_infos, crate::proofs::BuildingLemmas::finds_enum_infos, crate::proofs::BuildingLemmas::finds_class_infos, crate::proofs::BuildingLemmas::marks_supers, crate::proofs::BuildingLemmas::features_found))]
+#[tactic(auto, using(crate::proofs::BuildingLemmas::few_classes, crate::proofs::BuildingLemmas::few_enums, crate::proofs::BuildingLemmas::few_literals, crate::proofs::BuildingLemmas::few_infos, crate::proofs::BuildingLemmas::sound_lists))]
 pub(crate) fn build(
     alloc: Global,
-    resolved: Resolved,
+    resolved: &Resolved,
     supers: &[List<usize>],
 ) -> Result<Metamodel, NoMemory>
-    requires limits { too_great resolved.document ≡ None }
-    requires supers { supers.now ≡ supers_places resolved.document }
-    ensures { IfOk result (λ meta. meta ≡ metamodel_of resolved.document) }
+    requires limits { too_great resolved.now.document ≡ None }
+    requires supers { supers.now ≡ supers_places resolved.now.document }
+    requires sound { IsSound (metamodel_of resolved.now.document) }
+    ensures { IfOk result (λ meta. meta ≡ metamodel_of resolved.now.document) }
 {
-    let lists = lists(alloc, &resolved, supers)?;
-    let above = above_table(alloc, supers)?;
-    let features = Features::of(
-        alloc,
-        lists.attributes.as_slice(),
-        lists.references.as_slice(),
-        above.as_slice(),
-        lists.classes.len(),
-    )?;
-    let Resolved {
-        document: _,
-        enums,
-        classes,
-        references: _,
-    } = resolved;
-    Metamodel::new(alloc, lists, enums, classes, above, features)
+    let lists = lists(alloc, resolved, supers)?;
+    Metamodel::new(alloc, lists)
 }

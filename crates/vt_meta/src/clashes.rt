@@ -1,15 +1,16 @@
 // Classes with two different features of one name.
 ghost use Rattle.std.specs.Prelude.{◌≡◌, ◌++◌, ◌<◌, ◌∷◌, [], IfOk, OnOk, length, not};
-ghost use Rattle.vt_meta.specs.Declarations.{is_distinct};
+ghost use Rattle.vt_model.specs.Words.{is_distinct};
 ghost use Rattle.vt_meta.specs.Faults.{has_clash, at_class};
-ghost use Rattle.vt_meta.specs.Inside.Above.{class_id, supers_places};
+ghost use Rattle.vt_meta.specs.Inside.Above.{supers_places};
+ghost use Rattle.vt_model.specs.Above.{class_id};
 ghost use Rattle.vt_meta.specs.Inside.Features.{names_at, names_at_each};
 
-use crate::above::classes_above;
 use crate::document::{ClassDocument, MetamodelDocument};
 use crate::duplicates::{add_declared_names, is_distinct};
 use std::alloc::Global;
 use vt_base::{List, NoMemory, Text};
+use vt_model::classes_above;
 
 fn add_names_at(
     names: &mut List<Text>,

@@ -1,14 +1,15 @@
 // Classes that are their own supertypes.
 ghost use Rattle.std.specs.Prelude.{◌≡◌, IfOk, map};
 ghost use Rattle.vt_meta.specs.Faults.{is_above_itself, at_class};
-ghost use Rattle.vt_meta.specs.Inside.Above.{class_id, class_places, supers_at, supers_places, is_above_any, AreThere};
+ghost use Rattle.vt_meta.specs.Inside.Above.{class_places, supers_places};
+ghost use Rattle.vt_model.specs.Above.{class_id, supers_at, is_above_any, AreThere};
 
-use crate::above::classes_above;
 use crate::document::{ClassDocument, MetamodelDocument};
 use crate::resolved::Resolved;
 use std::alloc::Global;
 use vt_base::{List, NoMemory};
 use vt_json::Identifier;
+use vt_model::classes_above;
 
 fn class_places(
     alloc: Global,

@@ -1,9 +1,10 @@
 // From bytes to a metamodel, or the first fault.
 ghost use Rattle.std.specs.Prelude.{◌≡◌, IfOk, OnOk, IfErr, Ok, Some, None};
 ghost use Rattle.vt_meta.specs.Faults.{duplicate_place, too_great, first_fault};
-ghost use Rattle.vt_meta.specs.Sound.{IsSound};
+ghost use Rattle.vt_model.specs.Sound.{IsSound};
 ghost use Rattle.vt_meta.specs.Reading.{judged, meta_of, IsFaultOf};
 ghost use Rattle.vt_meta.specs.Inside.Above.{supers_places};
+ghost use Rattle.vt_meta.specs.Inside.Literals.{HasLiterals};
 ghost use Rattle.vt_meta.specs.Inside.Refused.{IsFaultIn};
 
 use crate::building::build;
@@ -14,13 +15,13 @@ use crate::duplicates::duplicate_place;
 use crate::fault::MetaFault;
 use crate::laws::read_is_sound;
 use crate::limits::too_great;
-use crate::metamodel::Metamodel;
 use crate::opposites::{bad_containment_place, bad_opposite_place};
 use crate::resolved::{Resolved, resolve};
 use crate::types::unknown_type_place;
 use std::alloc::Global;
 use vt_base::List;
 use vt_json::{JsonFault, Shape, ShapeFault, parse};
+use vt_model::Metamodel;
 
 // The first fault of a document, by what its names stand for and by its supertypes.
 #[tactic(auto, unfolding(crate::specs::Faults::first_fault))]
@@ -66,8 +67,9 @@ fn check(alloc: Global, resolved: &Resolved, supers: &[List<usize>]) -> Result<(
 }
 
 // The metamodel of a document that has its shape.
-#[tactic(auto, unfolding(crate::specs::Faults::first_fault))]
+#[tactic(auto, unfolding(crate::specs::Faults::first_fault), using(crate::proofs::Sound::sound_document))]
 fn judge(alloc: Global, document: MetamodelDocument) -> Result<Metamodel, MetaFault>
+    requires literals { HasLiterals document }
     ensures accepted { IfOk result (λ meta. judged (Some document) ≡ Ok meta) }
     ensures refused { IfErr result (λ fault. IsFaultOf fault (judged (Some document))) }
 {
@@ -79,11 +81,11 @@ fn judge(alloc: Global, document: MetamodelDocument) -> Result<Metamodel, MetaFa
     let resolved = resolve(alloc, document)?;
     let supers = supers_places(alloc, &resolved)?;
     check(alloc, &resolved, supers.as_slice())?;
-    Ok(build(alloc, resolved, supers.as_slice())?)
+    Ok(build(alloc, &resolved, supers.as_slice())?)
 }
 
 // The metamodel of bytes, or the first fault.
-#[tactic(auto, unfolding(crate::specs::Reading::meta_of))]
+#[tactic(auto, unfolding(crate::specs::Reading::meta_of), using(crate::proofs::Sound::Shapes::literals_of_shape))]
 fn read(alloc: Global, bytes: &[u8]) -> Result<Metamodel, MetaFault>
     ensures accepted { IfOk result (λ meta. meta_of bytes.now ≡ Ok meta) }
     ensures refused { IfErr result (λ fault. IsFaultOf fault (meta_of bytes.now)) }

@@ -1,14 +1,16 @@
 // A document with the places of its names.
 ghost use Rattle.std.specs.Prelude.{◌≡◌, IfOk, map, position, slice_get, is_some, option_and_then};
 ghost use Rattle.std.specs.Option.{option_copied};
-ghost use Rattle.vt_meta.specs.Declarations.{is_name, is_kind_name, class_place, kind_named, declared_there, opposite_in};
-ghost use Rattle.vt_meta.specs.Inside.Places.{declared_at, place_in, FindsIn, FindsEnum, FindsClass, FindEachReference, FindReferences};
+ghost use Rattle.vt_meta.specs.Declarations.{is_kind_name, class_place, kind_named, declared_there, opposite_in};
+ghost use Rattle.vt_model.specs.Words.{is_name};
+ghost use Rattle.vt_meta.specs.Inside.Places.{declared_at, FindsEnum, FindsClass, FindEachReference, FindReferences};
+ghost use Rattle.vt_model.specs.Places.{place_in, FindsIn};
 
 use crate::document::{ClassDocument, EnumDocument, MetamodelDocument, ReferenceDocument};
 use crate::duplicates::add_reference_names;
-use crate::places::{Places, places_of};
 use std::alloc::Global;
 use vt_base::{List, NoMemory, Text};
+use vt_model::{Places, places_of};
 
 /// A document with the places of its enums, of its classes, and of the references of each class.
 #[derive(Drop)]

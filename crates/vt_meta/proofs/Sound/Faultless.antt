@@ -5,7 +5,7 @@ use Rattle.std.specs.List.{list_any}
 use Rattle.vt_meta.specs.Faults.{Fault, duplicate_name, unknown_type, super_cycle, bad_opposite, bad_containment, feature_clash, too_many, first_place, or_else, is_bad_enum, is_bad_class, duplicate_place, has_unknown_type, is_above_itself, lacks_opposite, is_bad_containment, has_clash, too_great, at_class, first_of, first_fault}
 use Rattle.vt_meta.specs.declared.document.ClassDocument.{ClassDocument}
 use Rattle.vt_meta.specs.declared.document.MetamodelDocument.{MetamodelDocument}
-use Rattle.vt_meta.proofs.Sound.Places.{first_place-at}
+use Rattle.vt_meta.proofs.FirstLemmas.{first_place-at}
 
 -- its name is its own and its features have different names, each of its references' opposites answers, and no feature clashes with one from above
 pub record IsFaultless (document : MetamodelDocument) : Type 0 where

@@ -2,13 +2,14 @@
 use Rattle.std.proofs.Common.{◌≡◌, ℕ, suc, ◌+◌, List, [], ◌∷◌, map, refl, ap, ◌∙◌, cond, arith, Bool, true, false, ◌⊎◌, inl, inr}
 use Rattle.std.specs.Prelude.{◌<◌, ◌≤◌, ◌≢◌, ◌&&◌, ◌==◌, slice_get, count_by, Some}
 use Rattle.std.proofs.lemmas.Bool.{and_left, ne_eqb, cases_eq}
-use Rattle.vt_meta.specs.Declarations.{is_name, is_distinct, declared_names}
+use Rattle.vt_meta.specs.Declarations.{declared_names}
+use Rattle.vt_model.specs.Words.{is_name, is_distinct}
 use Rattle.vt_meta.specs.Built.{Declared, declared_by, references_from}
 use Rattle.vt_meta.specs.declared.document.ClassDocument.{ClassDocument}
 use Rattle.vt_meta.specs.declared.document.ReferenceDocument.{ReferenceDocument}
-use Rattle.vt_meta.proofs.Valid.Counts.{count_by-no, count_by-append, count_by-cons}
-use Rattle.vt_meta.proofs.Valid.Names.{times, times-is_distinct}
-use Rattle.vt_meta.proofs.Sound.Places.{slice_get-from_map, slice_get-append_cases}
+use Rattle.vt_model.proofs.Valid.Counts.{count_by-no, count_by-append, count_by-cons}
+use Rattle.vt_model.proofs.Valid.Names.{times, times-is_distinct}
+use Rattle.vt_model.proofs.SearchLemmas.{slice_get-from_map, slice_get-append_cases}
 
 -- ---- whose a reference is
 

@@ -5,14 +5,15 @@ use Rattle.std.specs.Option.{option_map_or}
 use Rattle.std.proofs.lemmas.Bool.{lt-ltb}
 use Rattle.std.proofs.lemmas.Option.{slice_get-map}
 use Rattle.vt_base.specs.declared.value.Kind.TheVariants.{Int, Bool as Boolean, Text, Enum}
-use Rattle.vt_meta.specs.Declarations.{is_name, kind_named}
+use Rattle.vt_meta.specs.Declarations.{kind_named}
+use Rattle.vt_model.specs.Words.{is_name}
 use Rattle.vt_meta.specs.Built.{metamodel_of, enum_info}
-use Rattle.vt_meta.specs.Assigning.{is_literal}
-use Rattle.vt_meta.specs.Sound.{IsAttributeKind}
+use Rattle.vt_model.specs.Assigning.{is_literal}
+use Rattle.vt_model.specs.Sound.{IsAttributeKind}
 use Rattle.vt_meta.specs.declared.document.MetamodelDocument.{MetamodelDocument}
-use Rattle.vt_meta.specs.declared.metamodel.EnumInfo.{EnumInfo}
-use Rattle.vt_meta.proofs.Valid.Found.{IsAt-position}
-use Rattle.vt_meta.proofs.Sound.Shapes.{HasLiterals}
+use Rattle.vt_model.specs.declared.metamodel.EnumInfo.{EnumInfo}
+use Rattle.vt_model.proofs.Valid.Found.{IsAt-position}
+use Rattle.vt_meta.specs.Inside.Literals.{HasLiterals}
 
 module _ (document : MetamodelDocument) (literals : HasLiterals document) where
   -- an enum that a name finds has a first literal

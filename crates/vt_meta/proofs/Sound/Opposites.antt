@@ -5,15 +5,16 @@ use Rattle.std.specs.Option.{option_map_or}
 use Rattle.std.proofs.lemmas.Bool.{or_parts, and_parts, and_from, not-true, both_ways, eq-eqb}
 use Rattle.std.proofs.lemmas.Option.{same_Some, slice_get-map}
 use Rattle.vt_base.specs.declared.numbers.RefId.{RefId}
-use Rattle.vt_meta.specs.Declarations.{is_name, names_opposite, class_number, opposite_in}
+use Rattle.vt_meta.specs.Declarations.{names_opposite, class_number, opposite_in}
+use Rattle.vt_model.specs.Words.{is_name}
 use Rattle.vt_meta.specs.Built.{Declared, references_from, reference_number, ref_info, metamodel_of}
 use Rattle.vt_meta.specs.Faults.{is_bad_containment}
-use Rattle.vt_meta.specs.Sound.{Answers}
+use Rattle.vt_model.specs.Sound.{Answers}
 use Rattle.vt_meta.specs.declared.document.ClassDocument.{ClassDocument}
 use Rattle.vt_meta.specs.declared.document.ReferenceDocument.{ReferenceDocument}
 use Rattle.vt_meta.specs.declared.document.MetamodelDocument.{MetamodelDocument}
-use Rattle.vt_meta.proofs.Valid.Names.{same_name, is_name-itself}
-use Rattle.vt_meta.proofs.Sound.Places.{list_any-at, position-only}
+use Rattle.vt_model.proofs.Valid.Names.{same_name, is_name-itself}
+use Rattle.vt_model.proofs.SearchLemmas.{list_any-at, position-only}
 use Rattle.vt_meta.proofs.Sound.Flat.{is_named}
 use Rattle.vt_meta.proofs.Sound.Faultless.{IsFaultless}
 use Rattle.vt_meta.proofs.Sound.Answered.{IsPaired, class_place-itself, class_number-place, references-once}

@@ -7,6 +7,7 @@ use Rattle.serde_json.specs.Find.{get, as_array, as_str}
 use Rattle.vt_json.specs.Shape.{◌>>=◌, has_only, required, defaulted, or_default, list_of, items_in}
 use Rattle.vt_json.specs.Names.{identifier}
 use Rattle.vt_meta.specs.Document.{some_of, enum_shape, class_shape, document_shape, has_format_one}
+use Rattle.vt_meta.specs.Inside.Literals.{HasLiterals}
 use Rattle.vt_meta.specs.declared.document.EnumDocument.{EnumDocument}
 use Rattle.vt_meta.specs.declared.document.ClassDocument.{ClassDocument}
 use Rattle.vt_meta.specs.declared.document.MetamodelDocument.{MetamodelDocument}
@@ -60,10 +61,6 @@ length-enum_shape d x e =
 
 -- ---- the document
 
--- each enum of the document has a literal
-abbrev pub HasLiterals : MetamodelDocument → Type 0
-HasLiterals document = (i : ℕ) (x : EnumDocument) → slice_get document.enums i ≡ Some x → 0 < length x.literals
-
 -- a document that has its shape does so
 pub HasLiterals-document_shape : (d : Data) (document : MetamodelDocument) → document_shape d ≡ Some document → HasLiterals document
 HasLiterals-document_shape d document e i x at =
@@ -81,3 +78,7 @@ HasLiterals-document_shape d document e i x at =
         let there : slice_get enums i ≡ Some x = subst (λ (y : MetamodelDocument). slice_get y.enums i ≡ Some x) (sym is) at in
         let shaped = slice_get-default_list enum_shape (get (codes "enums") d) enums i x of_enums there in
         length-enum_shape shaped.0 x shaped.1
+
+-- the same for the document that is read
+pub literals_of_shape : (d : Data) (document : MetamodelDocument) → document_shape d ≡ Some document → HasLiterals document
+literals_of_shape = HasLiterals-document_shape

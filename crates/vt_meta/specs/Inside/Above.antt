@@ -1,22 +1,7 @@
--- The classes above some classes, by their places in a document.
-use Rattle.std.specs.Prelude.{◌≡◌, ℕ, ◌<◌, Bool, List, [], map, length, slice_get, unwrap_or, nat_eq, All}
-use Rattle.std.specs.List.{list_any, IsDistinct}
-use Rattle.vt_base.specs.declared.numbers.ClassId.{ClassId}
-use Rattle.vt_meta.specs.Metamodel.{is_within}
+-- The supertypes of the classes of a document, by their places.
+use Rattle.std.specs.Prelude.{ℕ, List, map, unwrap_or}
 use Rattle.vt_meta.specs.Declarations.{class_place}
 use Rattle.vt_meta.specs.declared.document.MetamodelDocument.{MetamodelDocument}
-
--- the number of the class at a place
-abbrev pub class_id : ℕ → ClassId
-class_id n = record { 0 = n }
-
--- places of supertypes as their numbers
-abbrev pub ids : List (List ℕ) → List (List ClassId)
-ids supers = map (map class_id) supers
-
--- the supertypes of the class at a place
-abbrev pub supers_at : List (List ℕ) → ℕ → List ℕ
-supers_at supers c = unwrap_or (slice_get supers c) []
 
 -- the places of classes by their names, where these are there
 abbrev pub class_places : MetamodelDocument → List (List ℕ) → List ℕ
@@ -25,17 +10,3 @@ class_places document names = map (λ s. unwrap_or (class_place document s) 0) n
 -- the supertypes of each class of a document
 abbrev pub supers_places : MetamodelDocument → List (List ℕ)
 supers_places document = map (λ c. class_places document c.supers) document.classes
-
--- each supertype is a class that is there
-abbrev pub AreThere : List (List ℕ) → Type 0
-AreThere supers = All (All (λ e. e < length supers)) supers
-
--- a class is one of some classes or above one of them
-abbrev pub is_above_any : List (List ℕ) → List ℕ → ℕ → Bool
-is_above_any supers starts d = list_any (λ s. is_within (ids supers) (length supers) (class_id s) (class_id d)) starts
-
--- exactly some classes and those above them, each once
-pub record IsAbove (supers : List (List ℕ)) (starts : List ℕ) (above : List ℕ) : Type 0 where
-  pub distinct : IsDistinct nat_eq above
-  pub there : All (λ x. x < length supers) above
-  pub exact : (d : ℕ) → list_any (nat_eq d) above ≡ is_above_any supers starts d

@@ -1,26 +1,13 @@
--- Names by the places where they first stand in a list.
-use Rattle.std.specs.Prelude.{◌≡◌, ℕ, List, map, slice_get, find, position, option_and_then, if◌then◌else◌, Option, Some, None}
-use Rattle.std.specs.Option.{option_or}
+-- Names of a document by their places.
+use Rattle.std.specs.Prelude.{◌≡◌, ℕ, List, map, slice_get, find, position, option_and_then, Option}
 use Rattle.std.specs.List.{AllZip}
-use Rattle.indexmap.specs.IndexMap.{get_by_text}
-use Rattle.vt_meta.specs.Declarations.{is_name}
-use Rattle.vt_meta.specs.declared.places.Places.{Places}
+use Rattle.vt_model.specs.Words.{is_name}
+use Rattle.vt_model.specs.Places.{place_in, FindsIn}
+use Rattle.vt_model.specs.declared.places.Places.{Places}
 use Rattle.vt_meta.specs.declared.document.EnumDocument.{EnumDocument}
 use Rattle.vt_meta.specs.declared.document.ClassDocument.{ClassDocument}
 use Rattle.vt_meta.specs.declared.document.ReferenceDocument.{ReferenceDocument}
 use Rattle.vt_meta.specs.declared.document.MetamodelDocument.{MetamodelDocument}
-
--- the place that is kept for a name
-abbrev pub place_in : Places → List ℕ → Option ℕ
-place_in p name = get_by_text p.table name
-
--- finds each name where it first stands
-abbrev pub FindsIn : List (List ℕ) → Places → Type 0
-FindsIn names p = (name : List ℕ) → place_in p name ≡ position (λ n. is_name n name) names
-
--- a name that has no place gets this one
-abbrev pub AddsPlace : Places → Places → List ℕ → ℕ → Type 0
-AddsPlace old new added place = (name : List ℕ) → place_in new name ≡ option_or (place_in old name) (if is_name added name then Some place else None)
 
 -- finds each enum by its name
 abbrev pub FindsEnum : List EnumDocument → Places → Type 0

@@ -1,5 +1,5 @@
 -- The fault that a document with its shape is refused for.
-use Rattle.vt_meta.specs.Metamodel.{Metamodel}
+use Rattle.vt_model.specs.Metamodel.{Metamodel}
 use Rattle.vt_meta.specs.Faults.{Fault}
 use Rattle.vt_meta.specs.Reading.{unless_faulty, IsFaultOf}
 use Rattle.vt_meta.specs.declared.fault.MetaFault.{MetaFault}

@@ -1,5 +1,5 @@
 use Rattle.std.proofs.Common.{◌≡◌, ◌++◌, drop, map}
-use Rattle.vt_meta.specs.Inside.Above.{class_id}
+use Rattle.vt_model.specs.Above.{class_id}
 use Rattle.vt_meta.proofs.building.class_ids.Given as goal
 
 -- what is out, and what the rest gives, is what the whole gives

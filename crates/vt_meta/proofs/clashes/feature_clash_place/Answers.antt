@@ -1,6 +1,6 @@
 use Rattle.std.proofs.Common.{◌≡◌, ◌<◌, ◌≤◌, ℕ, Bool, ◌∙◌, sym, ap, length, true, false, Some, arith}
 use Rattle.vt_meta.specs.Faults.{has_clash}
-use Rattle.vt_meta.specs.Inside.Above.{class_id}
+use Rattle.vt_model.specs.Above.{class_id}
 use Rattle.vt_meta.proofs.FirstLemmas.{at_place_hit, at_place_miss, at_class_end}
 use Rattle.vt_meta.proofs.SupersLemmas.{length_supers}
 use Rattle.vt_meta.proofs.clashes.feature_clash_place.Goals as goal

@@ -1,5 +1,5 @@
 use Rattle.vt_meta.specs.Faults.{has_clash}
-use Rattle.vt_meta.specs.Inside.Above.{class_id}
+use Rattle.vt_model.specs.Above.{class_id}
 use Rattle.vt_meta.proofs.FirstLemmas.{NoneBefore}
 use Rattle.vt_meta.proofs.clashes.feature_clash_place.Given as goal
 

@@ -1,7 +1,7 @@
 use Rattle.std.proofs.Common.{◌≡◌, ◌∙◌, [], ◌∷◌, ◌++◌, map, ap, rules}
 use Rattle.vt_meta.specs.Inside.Above.{class_places}
 use Rattle.vt_meta.specs.declared.document.ClassDocument.{ClassDocument}
-use Rattle.vt_meta.proofs.SupersLemmas.{out_more}
+use Rattle.vt_model.proofs.MapLemmas.{out_more}
 use Rattle.vt_meta.proofs.cycles.all_supers.Goals as goal
 
 pub loop-class-preserved : goal.loop-class-preserved

@@ -1,6 +1,6 @@
 use Rattle.std.proofs.Common.{◌≡◌, ◌<◌, ◌≤◌, ℕ, Bool, ◌∙◌, sym, ap, subst, length, true, false, Some, arith}
 use Rattle.vt_meta.specs.Faults.{is_above_itself}
-use Rattle.vt_meta.specs.Inside.Above.{class_id, AreThere}
+use Rattle.vt_model.specs.Above.{class_id, AreThere}
 use Rattle.vt_meta.proofs.FirstLemmas.{at_place_hit, at_place_miss, at_class_end}
 use Rattle.vt_meta.proofs.SupersLemmas.{length_supers, there_supers, above_itself}
 use Rattle.vt_meta.proofs.cycles.super_cycle_place.Goals as goal

@@ -1,5 +1,5 @@
 use Rattle.vt_meta.specs.Faults.{is_above_itself}
-use Rattle.vt_meta.specs.Inside.Above.{class_id}
+use Rattle.vt_model.specs.Above.{class_id}
 use Rattle.vt_meta.proofs.FirstLemmas.{NoneBefore}
 use Rattle.vt_meta.proofs.cycles.super_cycle_place.Given as goal
 

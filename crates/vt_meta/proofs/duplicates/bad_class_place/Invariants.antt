@@ -1,7 +1,7 @@
 use Rattle.std.proofs.Common.{◌≡◌, ◌+◌, take, drop, length}
 use Rattle.vt_meta.specs.Declarations.{item_names}
 use Rattle.vt_meta.specs.Faults.{first_place, is_bad_class}
-use Rattle.vt_meta.specs.Inside.Places.{FindsIn}
+use Rattle.vt_model.specs.Places.{FindsIn}
 use Rattle.vt_meta.proofs.duplicates.bad_class_place.Given as goal
 
 -- what was seen, and the rest decides

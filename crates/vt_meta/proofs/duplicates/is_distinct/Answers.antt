@@ -1,9 +1,9 @@
 use Rattle.std.proofs.Common.{◌≡◌, ◌∙◌, get_or, subst, sym, true, false}
 use Rattle.std.specs.Prelude.{is_some}
 use Rattle.std.proofs.lemmas.Bool.{not-true, not-false}
-use Rattle.vt_meta.specs.Inside.Places.{place_in, AddsPlace}
-use Rattle.vt_meta.proofs.PlacesLemmas.{FindsIn_more}
-use Rattle.vt_meta.proofs.DistinctLemmas.{distinct_more, distinct_stops}
+use Rattle.vt_model.specs.Places.{place_in, AddsPlace}
+use Rattle.vt_model.proofs.PlacesLemmas.{FindsIn_more}
+use Rattle.vt_model.proofs.DistinctLemmas.{distinct_more, distinct_stops}
 use Rattle.vt_meta.proofs.duplicates.is_distinct.Goals as goal
 
 pub returns-then-not-branch : goal.returns-then-not-branch

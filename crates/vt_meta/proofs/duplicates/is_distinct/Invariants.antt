@@ -1,6 +1,6 @@
 use Rattle.std.proofs.Common.{◌≡◌, take, true}
-use Rattle.vt_meta.specs.Declarations.{is_distinct}
-use Rattle.vt_meta.specs.Inside.Places.{FindsIn}
+use Rattle.vt_model.specs.Words.{is_distinct}
+use Rattle.vt_model.specs.Places.{FindsIn}
 use Rattle.vt_meta.proofs.duplicates.is_distinct.Given as goal
 
 abbrev pub invariant-loop-place : goal.invariant-loop-place

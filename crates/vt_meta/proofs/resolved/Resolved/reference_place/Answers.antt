@@ -1,6 +1,6 @@
 use Rattle.std.proofs.Common.{◌∙◌, ap, slice_get}
 use Rattle.std.specs.Prelude.{option_and_then}
-use Rattle.vt_meta.specs.Inside.Places.{place_in}
+use Rattle.vt_model.specs.Places.{place_in}
 use Rattle.vt_meta.proofs.resolved.Resolved.reference_place.Goals as goal
 
 pub returns : goal.returns

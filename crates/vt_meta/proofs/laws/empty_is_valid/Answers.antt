@@ -1,5 +1,0 @@
-use Rattle.vt_meta.proofs.Valid.Empty.{IsValid-empty_model}
-use Rattle.vt_meta.proofs.laws.empty_is_valid.Goals as goal
-
-pub returns : goal.returns
-returns c = IsValid-empty_model

@@ -1,6 +1,0 @@
-use Rattle.std.proofs.Common.{take}
-use Rattle.vt_meta.specs.Inside.Places.{FindsIn}
-use Rattle.vt_meta.proofs.places.places_of.Given as goal
-
-abbrev pub invariant-loop-place : goal.invariant-loop-place
-invariant-loop-place l = FindsIn (take l.place l.names) l.places

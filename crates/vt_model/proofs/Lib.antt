@@ -1,0 +1,13 @@
+pub mod OrderedLemmas
+pub mod MemberLemmas
+pub mod MapLemmas
+pub mod PositionLemmas
+pub mod PlacesLemmas
+pub mod DistinctLemmas
+pub mod SearchLemmas
+pub mod IsaLemmas
+pub mod AboveLemmas
+pub mod TableLemmas
+pub mod FeatureLemmas
+pub mod Valid
+pub mod BaseLemmas

@@ -1,0 +1,23 @@
+-- Lists that are changed item by item.
+use Rattle.std.proofs.Common.{◌≡◌, ℕ, ◌+◌, List, [], ◌∷◌, ◌++◌, length, map, drop, get_or, refl, sym, ap, ◌∙◌, Bool}
+use Rattle.std.specs.Prelude.{◌<◌, ◌||◌}
+use Rattle.std.specs.List.{list_any}
+use Rattle.std.proofs.lemmas.List.{append_assoc, at_drop_more}
+
+-- what is out, and what the rest gives, at a step of a loop
+pub out_more : {A B : Type 0} (f : A → B) (xs : List A) (i : ℕ) (x : A) (out new whole : List B) → i < length xs → x ≡ get_or xs i x → out ++ map f (drop i xs) ≡ whole
+    → new ≡ out ++ f x ∷ [] → new ++ map f (drop (i + 1) xs) ≡ whole
+out_more f xs i x out new whole below at before is =
+    ap (λ l. l ++ map f (drop (i + 1) xs)) is
+    ∙ append_assoc out (f x ∷ []) (map f (drop (i + 1) xs))
+    ∙ ap (λ y. out ++ (f y ∷ map f (drop (i + 1) xs))) at
+    ∙ ap (λ l. out ++ l) (sym (at_drop_more (map f) xs i x below))
+    ∙ before
+
+pub map-map : {A B C : Type 0} (g : B → C) (f : A → B) (xs : List A) → map g (map f xs) ≡ map (λ x. g (f x)) xs
+map-map g f [] = refl
+map-map g f (x ∷ xs) = ap (λ ys. g (f x) ∷ ys) (map-map g f xs)
+
+pub list_any-map : {A B : Type 0} (p : B → Bool) (f : A → B) (xs : List A) → list_any p (map f xs) ≡ list_any (λ x. p (f x)) xs
+list_any-map p f [] = refl
+list_any-map p f (x ∷ xs) = ap (λ b. p (f x) || b) (list_any-map p f xs)

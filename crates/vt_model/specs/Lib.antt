@@ -1,0 +1,20 @@
+-- what the contracts say, in reading order
+pub mod Words
+pub mod Metamodel
+pub mod Sound
+pub mod Model
+pub mod Creating
+pub mod Assigning
+pub mod Linking
+pub mod Containing
+pub mod Deleting
+pub mod Effect
+pub mod Transaction
+pub mod Fits
+pub mod Valid
+pub mod Base
+-- what the reader of documents is told
+pub mod Places
+pub mod Above
+-- what the functions inside the crate promise each other
+pub mod Inside
