@@ -1,4 +1,3 @@
-pub mod EffectLemmas
 pub mod StopLemmas
 pub mod LoadingLemmas
 pub mod NextLemmas
@@ -7,4 +6,3 @@ pub mod JoinedLemmas
 pub mod NoFloats
 pub mod TextLemmas
 pub mod Dumped
-pub mod DumpLoads

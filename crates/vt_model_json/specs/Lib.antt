@@ -3,6 +3,5 @@ pub mod ModelDocument
 pub mod Loading
 pub mod Difference
 pub mod Dump
-pub mod Writable
 -- what the functions inside the crate promise each other
 pub mod Inside

@@ -1,7 +1,7 @@
 //! Model documents: read into a store, and written as the dump of its model.
 //!
 //! It stands on `vt_json`, `vt_meta` and `vt_store`. Read `specs/ModelDocument.antt`,
-//! `specs/Loading.antt`, `specs/Difference.antt`, `specs/Dump.antt`, then `specs/Writable.antt`.
+//! `specs/Loading.antt`, `specs/Difference.antt`, then `specs/Dump.antt`.
 #![tactic(auto)]
 
 // A document, the model that it makes, and what is new in it.
@@ -10,15 +10,11 @@ mod document;
 mod loading;
 // The text of a model.
 mod dump;
-// What holds of the dump of every valid model.
-mod laws;
 
 // A document, the model that it makes, and what is new in it.
 pub use loading::{ModelFault, read_model, read_store};
 // The text of a model.
 pub use dump::write_model;
-// What holds of the dump of every valid model.
-pub use laws::dump_loads_back;
 
 #[cfg(test)]
 mod tests;

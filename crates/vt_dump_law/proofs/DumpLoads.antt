@@ -1,24 +1,4 @@
 -- The dump of a valid model loads to it.
-pub mod Made
-pub mod Lists
-pub mod Displaced
-pub mod Names
-pub mod Links
-pub mod Given
-pub mod Values
-pub mod Objects
-pub mod Spelled
-pub mod Attributes
-pub mod References
-pub mod Shape
-pub mod Changes
-pub mod Readable
-pub mod ReadBack
-pub mod PlainNames
-pub mod MetaShapes
-pub mod MetaNames
-pub mod DataParts
-pub mod DataText
 use Rattle.std.proofs.Common.{◌≡◌, ℕ, List, [], refl, ap, ◌∙◌}
 use Rattle.std.specs.Prelude.{Some, Ok}
 use Rattle.vt_json.specs.Json.{json_of}
@@ -28,12 +8,12 @@ use Rattle.vt_meta.specs.Reading.{meta_of}
 use Rattle.vt_meta.specs.Valid.{IsValid}
 use Rattle.vt_model_json.specs.Dump.{model_data, dump}
 use Rattle.vt_model_json.specs.Loading.{finished, judged, shaped, loaded}
-use Rattle.vt_model_json.specs.Writable.{IsWritable}
-use Rattle.vt_model_json.proofs.DumpLoads.ReadBack.{json_of-compact_text}
-use Rattle.vt_model_json.proofs.DumpLoads.DataText.{IsReadable-model_data, depth-model_data}
-use Rattle.vt_model_json.proofs.DumpLoads.Shape.{document_shape-model_data}
-use Rattle.vt_model_json.proofs.DumpLoads.Changes.{transaction-live}
-use Rattle.vt_model_json.proofs.DumpLoads.MetaNames.{IsNamed, IsNamed-meta_of}
+use Rattle.vt_dump_law.specs.Writable.{IsWritable}
+use Rattle.vt_dump_law.proofs.ReadBack.{json_of-compact_text}
+use Rattle.vt_dump_law.proofs.DataText.{IsReadable-model_data, depth-model_data}
+use Rattle.vt_dump_law.proofs.Shape.{document_shape-model_data}
+use Rattle.vt_dump_law.proofs.Changes.{transaction-live}
+use Rattle.vt_dump_law.proofs.MetaNames.{IsNamed, IsNamed-meta_of}
 
 -- the text of the data is read back as the data
 pub json_of-dump : (meta : Metamodel) (g : Model) → IsNamed meta → IsValid meta g → IsWritable g → json_of (dump meta g) ≡ Some (model_data meta g)

@@ -26,9 +26,9 @@ use Rattle.vt_meta.proofs.Sound.Shapes.{HasLiterals-document_shape}
 use Rattle.vt_meta.proofs.Sound.Places.{slice_get-from_map, first_place-at}
 use Rattle.vt_meta.proofs.Sound.Faultless.{IsFaultless-first_fault}
 use Rattle.vt_meta.proofs.Sound.Answered.{class_place-itself}
-use Rattle.vt_model_json.proofs.DumpLoads.Given.{HasLiteralNames}
-use Rattle.vt_model_json.proofs.DumpLoads.Objects.{HasClassNames}
-use Rattle.vt_model_json.proofs.DumpLoads.MetaShapes.{IsNamedClass, IsNamedDocument-document_shape}
+use Rattle.vt_dump_law.proofs.Given.{HasLiteralNames}
+use Rattle.vt_dump_law.proofs.Objects.{HasClassNames}
+use Rattle.vt_dump_law.proofs.MetaShapes.{IsNamedClass, IsNamedDocument-document_shape}
 
 -- what the dump needs of a metamodel
 pub record IsNamed (meta : Metamodel) : Type 0 where

@@ -6,7 +6,7 @@ ghost use Rattle.vt_meta.specs.Reading.{meta_of};
 ghost use Rattle.vt_meta.specs.Valid.{IsValid};
 ghost use Rattle.vt_model_json.specs.Dump.{dump};
 ghost use Rattle.vt_model_json.specs.Loading.{loaded};
-ghost use Rattle.vt_model_json.specs.Writable.{IsWritable};
+ghost use Rattle.vt_dump_law.specs.Writable.{IsWritable};
 
 /// The dump of a valid model loads to the model, but for the objects that were deleted.
 pub fn dump_loads_back()

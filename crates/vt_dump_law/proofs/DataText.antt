@@ -14,16 +14,16 @@ use Rattle.vt_meta.specs.Valid.{IsValid}
 use Rattle.vt_meta.specs.declared.model.Object.{Object}
 use Rattle.vt_meta.proofs.MemberLemmas.{Contains-head, Contains-behind}
 use Rattle.vt_model_json.specs.Dump.{attribute_members, values_of, links_of, target_names, link_members, object_data, objects_data, model_data}
-use Rattle.vt_model_json.specs.Writable.{IsWritableValue, IsWritable}
-use Rattle.vt_model_json.proofs.DumpLoads.Links.{reference_name}
-use Rattle.vt_model_json.proofs.DumpLoads.Spelled.{by_key, by_key_total, IsStrictlySortedBy-placed}
-use Rattle.vt_model_json.proofs.DumpLoads.Attributes.{value_key, data_of_value, values_by_key, own-values, attribute_members-spelled, from-values_by_key}
-use Rattle.vt_model_json.proofs.DumpLoads.References.{data_of_reference, references_by_key, link_members-spelled, references_from-rise}
-use Rattle.vt_model_json.proofs.DumpLoads.Shape.{target-form}
-use Rattle.vt_model_json.proofs.DumpLoads.Readable.{IsReadable, AreReadable}
-use Rattle.vt_model_json.proofs.DumpLoads.PlainNames.{below-object_name, IsUtf8-is_name}
-use Rattle.vt_model_json.proofs.DumpLoads.MetaNames.{IsNamed}
-use Rattle.vt_model_json.proofs.DumpLoads.DataParts.{none-rise, KeysRise-spelled, MembersAreReadable-spelled, members_depth-spelled, class_name-utf8, attribute_name-utf8, reference_name-utf8, IsReadable-value_data, depth-value_data, AreReadable-texts, items_depth-texts}
+use Rattle.vt_dump_law.specs.Writable.{IsWritableValue, IsWritable}
+use Rattle.vt_dump_law.proofs.Links.{reference_name}
+use Rattle.vt_dump_law.proofs.Spelled.{by_key, by_key_total, IsStrictlySortedBy-placed}
+use Rattle.vt_dump_law.proofs.Attributes.{value_key, data_of_value, values_by_key, own-values, attribute_members-spelled, from-values_by_key}
+use Rattle.vt_dump_law.proofs.References.{data_of_reference, references_by_key, link_members-spelled, references_from-rise}
+use Rattle.vt_dump_law.proofs.Shape.{target-form}
+use Rattle.vt_dump_law.proofs.Readable.{IsReadable, AreReadable}
+use Rattle.vt_dump_law.proofs.PlainNames.{below-object_name, IsUtf8-is_name}
+use Rattle.vt_dump_law.proofs.MetaNames.{IsNamed}
+use Rattle.vt_dump_law.proofs.DataParts.{none-rise, KeysRise-spelled, MembersAreReadable-spelled, members_depth-spelled, class_name-utf8, attribute_name-utf8, reference_name-utf8, IsReadable-value_data, depth-value_data, AreReadable-texts, items_depth-texts}
 
 module _ (meta : Metamodel) (named : IsNamed meta) (g : Model) (valid : IsValid meta g) (writable : IsWritable g) where
   -- ---- an object

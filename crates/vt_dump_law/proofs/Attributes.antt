@@ -21,10 +21,10 @@ use Rattle.vt_meta.specs.declared.model.AttributeValue.{AttributeValue}
 use Rattle.vt_meta.proofs.MemberLemmas.{Contains-head, Contains-behind, Contains-nil, Contains-from_filter}
 use Rattle.vt_meta.proofs.Valid.Containment.{same_object}
 use Rattle.vt_model_json.specs.Dump.{attribute_name, value_data, attribute_members, values_of}
-use Rattle.vt_model_json.proofs.DumpLoads.Lists.{same_if_equal}
-use Rattle.vt_model_json.proofs.DumpLoads.Names.{same_object_of_number, class-live, feature-attribute}
-use Rattle.vt_model_json.proofs.DumpLoads.Values.{value_order_total, value_order-same}
-use Rattle.vt_model_json.proofs.DumpLoads.Spelled.{placed, Contains-placed_cases, Contains-placed_new, among-insert_key, by_key, spelled, put-spelled}
+use Rattle.vt_dump_law.proofs.Lists.{same_if_equal}
+use Rattle.vt_dump_law.proofs.Names.{same_object_of_number, class-live, feature-attribute}
+use Rattle.vt_dump_law.proofs.Values.{value_order_total, value_order-same}
+use Rattle.vt_dump_law.proofs.Spelled.{placed, Contains-placed_cases, Contains-placed_new, among-insert_key, by_key, spelled, put-spelled}
 
 -- a value's key
 abbrev pub value_key : Metamodel → AttributeValue → List ℕ

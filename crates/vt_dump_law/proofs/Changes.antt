@@ -23,16 +23,16 @@ use Rattle.vt_meta.proofs.Valid.{IsValid-effect}
 use Rattle.vt_meta.proofs.Valid.Empty.{IsValid-empty_model}
 use Rattle.vt_model_json.specs.Loading.{creations, assignment, assignments, linkings, changes_of}
 use Rattle.vt_model_json.specs.Dump.{name_of, links_of, target_names}
-use Rattle.vt_model_json.proofs.DumpLoads.Made.{Makes, Makes-append, changes_from-Makes}
-use Rattle.vt_model_json.proofs.DumpLoads.Lists.{map_map_same, flat_map_same, flat_map_map, Contains-flat_map, Contains-flat_map_cases, some_counted, same_members}
-use Rattle.vt_model_json.proofs.DumpLoads.Names.{name_of-live}
-use Rattle.vt_model_json.proofs.DumpLoads.Links.{reference_name, linking, LinksMade, make_links}
-use Rattle.vt_model_json.proofs.DumpLoads.Given.{given_of, HasLiteralNames}
-use Rattle.vt_model_json.proofs.DumpLoads.Values.{value_order_total, is_value_of-same, is_value_of-parts, setting, ValuesMade, make_values}
-use Rattle.vt_model_json.proofs.DumpLoads.Objects.{HasClassNames, creation, HasDefault, ObjectsMade, make_objects}
-use Rattle.vt_model_json.proofs.DumpLoads.Attributes.{value_key, values_by_key, own-values, from-values_by_key, Contains-values_by_key}
-use Rattle.vt_model_json.proofs.DumpLoads.References.{references_by_key, own-links, Contains-references_by_key}
-use Rattle.vt_model_json.proofs.DumpLoads.Shape.{entry_of, document_of, whole_document}
+use Rattle.vt_dump_law.proofs.Made.{Makes, Makes-append, changes_from-Makes}
+use Rattle.vt_dump_law.proofs.Lists.{map_map_same, flat_map_same, flat_map_map, Contains-flat_map, Contains-flat_map_cases, some_counted, same_members}
+use Rattle.vt_dump_law.proofs.Names.{name_of-live}
+use Rattle.vt_dump_law.proofs.Links.{reference_name, linking, LinksMade, make_links}
+use Rattle.vt_dump_law.proofs.Given.{given_of, HasLiteralNames}
+use Rattle.vt_dump_law.proofs.Values.{value_order_total, is_value_of-same, is_value_of-parts, setting, ValuesMade, make_values}
+use Rattle.vt_dump_law.proofs.Objects.{HasClassNames, creation, HasDefault, ObjectsMade, make_objects}
+use Rattle.vt_dump_law.proofs.Attributes.{value_key, values_by_key, own-values, from-values_by_key, Contains-values_by_key}
+use Rattle.vt_dump_law.proofs.References.{references_by_key, own-links, Contains-references_by_key}
+use Rattle.vt_dump_law.proofs.Shape.{entry_of, document_of, whole_document}
 
 -- links are ordered by three numbers
 link_order_total : IsTotalOrder link_order

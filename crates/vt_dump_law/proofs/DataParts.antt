@@ -22,11 +22,11 @@ use Rattle.vt_meta.specs.declared.metamodel.AttrInfo.{AttrInfo}
 use Rattle.vt_meta.specs.declared.metamodel.RefInfo.{RefInfo}
 use Rattle.vt_meta.proofs.MemberLemmas.{Contains-head, Contains-behind}
 use Rattle.vt_model_json.specs.Dump.{class_name, attribute_name, literal_name, value_data, texts}
-use Rattle.vt_model_json.specs.Writable.{IsWritableValue}
-use Rattle.vt_model_json.proofs.DumpLoads.Links.{reference_name}
-use Rattle.vt_model_json.proofs.DumpLoads.Spelled.{by_key, spelled}
-use Rattle.vt_model_json.proofs.DumpLoads.Readable.{KeysRise, IsReadable, AreReadable, MembersAreReadable}
-use Rattle.vt_model_json.proofs.DumpLoads.MetaNames.{IsNamed}
+use Rattle.vt_dump_law.specs.Writable.{IsWritableValue}
+use Rattle.vt_dump_law.proofs.Links.{reference_name}
+use Rattle.vt_dump_law.proofs.Spelled.{by_key, spelled}
+use Rattle.vt_dump_law.proofs.Readable.{KeysRise, IsReadable, AreReadable, MembersAreReadable}
+use Rattle.vt_dump_law.proofs.MetaNames.{IsNamed}
 
 -- ---- lists
 

@@ -21,18 +21,18 @@ use Rattle.vt_meta.specs.declared.model.Link.{Link}
 use Rattle.vt_meta.proofs.MemberLemmas.{Contains-head, Contains-behind, Contains-from_filter}
 use Rattle.vt_model_json.specs.ModelDocument.{entry_shape, object_shape, rise, above_all, with_next, document_shape}
 use Rattle.vt_model_json.specs.Dump.{class_name, name_of, value_data, attribute_members, values_of, links_of, target_names, texts, link_members, object_data, objects_data, model_data}
-use Rattle.vt_model_json.specs.Writable.{IsWritableValue, IsWritable}
+use Rattle.vt_dump_law.specs.Writable.{IsWritableValue, IsWritable}
 use Rattle.vt_model_json.specs.declared.document.Entry.{Entry}
 use Rattle.vt_model_json.specs.declared.document.ObjectDocument.{ObjectDocument}
 use Rattle.vt_model_json.specs.declared.document.ModelDocument.{ModelDocument}
-use Rattle.vt_model_json.proofs.DumpLoads.Lists.{Contains-map_cases, below_head}
-use Rattle.vt_model_json.proofs.DumpLoads.Names.{name_of-live}
-use Rattle.vt_model_json.proofs.DumpLoads.Links.{reference_name}
-use Rattle.vt_model_json.proofs.DumpLoads.Given.{given_of}
-use Rattle.vt_model_json.proofs.DumpLoads.Objects.{object_order-Less}
-use Rattle.vt_model_json.proofs.DumpLoads.Spelled.{entries_in-spelled}
-use Rattle.vt_model_json.proofs.DumpLoads.Attributes.{value_key, data_of_value, values_by_key, own-values, attribute_members-spelled, from-values_by_key}
-use Rattle.vt_model_json.proofs.DumpLoads.References.{data_of_reference, references_by_key, link_members-spelled}
+use Rattle.vt_dump_law.proofs.Lists.{Contains-map_cases, below_head}
+use Rattle.vt_dump_law.proofs.Names.{name_of-live}
+use Rattle.vt_dump_law.proofs.Links.{reference_name}
+use Rattle.vt_dump_law.proofs.Given.{given_of}
+use Rattle.vt_dump_law.proofs.Objects.{object_order-Less}
+use Rattle.vt_dump_law.proofs.Spelled.{entries_in-spelled}
+use Rattle.vt_dump_law.proofs.Attributes.{value_key, data_of_value, values_by_key, own-values, attribute_members-spelled, from-values_by_key}
+use Rattle.vt_dump_law.proofs.References.{data_of_reference, references_by_key, link_members-spelled}
 
 -- ---- the document
 

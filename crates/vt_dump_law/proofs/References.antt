@@ -23,10 +23,10 @@ use Rattle.vt_meta.proofs.MemberLemmas.{Contains-head, Contains-nil, Contains-ma
 use Rattle.vt_meta.proofs.OrderedLemmas.{IsStrictlySortedBy-insert_key}
 use Rattle.vt_meta.proofs.Valid.Containment.{same_object}
 use Rattle.vt_model_json.specs.Dump.{name_of, links_of, target_names, texts, with_targets, link_members}
-use Rattle.vt_model_json.proofs.DumpLoads.Lists.{Contains-insert_key_here}
-use Rattle.vt_model_json.proofs.DumpLoads.Names.{same_object_of_number, class-live, feature-reference}
-use Rattle.vt_model_json.proofs.DumpLoads.Links.{reference_name}
-use Rattle.vt_model_json.proofs.DumpLoads.Spelled.{among-insert_key, by_key, by_key_total, spelled, put-spelled}
+use Rattle.vt_dump_law.proofs.Lists.{Contains-insert_key_here}
+use Rattle.vt_dump_law.proofs.Names.{same_object_of_number, class-live, feature-reference}
+use Rattle.vt_dump_law.proofs.Links.{reference_name}
+use Rattle.vt_dump_law.proofs.Spelled.{among-insert_key, by_key, by_key_total, spelled, put-spelled}
 
 -- what stands under the key of a reference
 abbrev pub data_of_reference : Model → List Link → ℕ → Data

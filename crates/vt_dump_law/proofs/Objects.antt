@@ -29,9 +29,9 @@ use Rattle.vt_meta.proofs.Valid.{IsValid-effect}
 use Rattle.vt_meta.proofs.Valid.Defaults.{All-defaults_from}
 use Rattle.vt_meta.proofs.Valid.Names.{same_name}
 use Rattle.vt_model_json.specs.Dump.{class_name}
-use Rattle.vt_model_json.proofs.DumpLoads.Made.{Makes}
-use Rattle.vt_model_json.proofs.DumpLoads.Lists.{below_head}
-use Rattle.vt_model_json.proofs.DumpLoads.Names.{object_named-live}
+use Rattle.vt_dump_law.proofs.Made.{Makes}
+use Rattle.vt_dump_law.proofs.Lists.{below_head}
+use Rattle.vt_dump_law.proofs.Names.{object_named-live}
 
 -- the name of each class finds it
 abbrev pub HasClassNames : Metamodel → Type 0

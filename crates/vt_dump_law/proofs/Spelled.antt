@@ -13,7 +13,7 @@ use Rattle.serde_json.specs.Data.{Data, Members, no_members, member, put}
 use Rattle.vt_json.specs.Shape.{entries_in}
 use Rattle.vt_meta.proofs.MemberLemmas.{Contains-head, Contains-behind, Contains-nil, Contains-cons_cases, Contains-insert_key_cases, Contains-insert_key_old}
 use Rattle.vt_meta.proofs.OrderedLemmas.{IsStrictlySortedBy-insert_key}
-use Rattle.vt_model_json.proofs.DumpLoads.Lists.{Contains-insert_key_here}
+use Rattle.vt_dump_law.proofs.Lists.{Contains-insert_key_here}
 
 -- ---- items put in one after the other
 

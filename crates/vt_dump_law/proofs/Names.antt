@@ -27,7 +27,7 @@ use Rattle.vt_meta.proofs.Valid.Found.{IsAt-position}
 use Rattle.vt_meta.proofs.Valid.Names.{times-is_distinct, times-objects, is_name-itself}
 use Rattle.vt_meta.proofs.Sound.Places.{count_by-at, position-only}
 use Rattle.vt_model_json.specs.Dump.{name_of}
-use Rattle.vt_model_json.proofs.DumpLoads.Lists.{only_one, count_by-filtered, same_if_equal}
+use Rattle.vt_dump_law.proofs.Lists.{only_one, count_by-filtered, same_if_equal}
 
 -- ---- objects
 

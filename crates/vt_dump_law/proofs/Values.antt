@@ -26,11 +26,11 @@ use Rattle.vt_meta.specs.declared.change.Change.{Change}
 use Rattle.vt_meta.proofs.MemberLemmas.{Contains-head, Contains-behind, Contains-nil, Contains-cons_cases, Contains-filter, Contains-from_filter, Contains-insert_key_cases, Contains-insert_key_old}
 use Rattle.vt_model_json.specs.Loading.{assignment}
 use Rattle.vt_model_json.specs.Dump.{attribute_name, name_of}
-use Rattle.vt_model_json.proofs.EffectLemmas.{set_made}
-use Rattle.vt_model_json.proofs.DumpLoads.Made.{Makes}
-use Rattle.vt_model_json.proofs.DumpLoads.Lists.{same_if_equal, Contains-insert_key_here}
-use Rattle.vt_model_json.proofs.DumpLoads.Names.{object_named-live, name_of-live, class-live, feature-attribute}
-use Rattle.vt_model_json.proofs.DumpLoads.Given.{given_of, HasLiteralNames, IsGiven-HasKind}
+use Rattle.vt_dump_law.proofs.EffectLemmas.{set_made}
+use Rattle.vt_dump_law.proofs.Made.{Makes}
+use Rattle.vt_dump_law.proofs.Lists.{same_if_equal, Contains-insert_key_here}
+use Rattle.vt_dump_law.proofs.Names.{object_named-live, name_of-live, class-live, feature-attribute}
+use Rattle.vt_dump_law.proofs.Given.{given_of, HasLiteralNames, IsGiven-HasKind}
 
 -- ---- values of one object and attribute
 

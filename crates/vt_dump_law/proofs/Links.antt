@@ -30,10 +30,10 @@ use Rattle.vt_meta.proofs.Valid.Containment.{same_object}
 use Rattle.vt_meta.proofs.Valid.Dropped.{Comes}
 use Rattle.vt_meta.proofs.Valid.WithLink.{Contains-with_link_cases, Contains-with_link_old, Contains-with_link_new}
 use Rattle.vt_model_json.specs.Dump.{name_of}
-use Rattle.vt_model_json.proofs.EffectLemmas.{link_made}
-use Rattle.vt_model_json.proofs.DumpLoads.Made.{Makes}
-use Rattle.vt_model_json.proofs.DumpLoads.Displaced.{same_reference, same_link, is_dropped-comes, straight}
-use Rattle.vt_model_json.proofs.DumpLoads.Names.{object_named-live, name_of-live, class-live, feature-reference}
+use Rattle.vt_dump_law.proofs.EffectLemmas.{link_made}
+use Rattle.vt_dump_law.proofs.Made.{Makes}
+use Rattle.vt_dump_law.proofs.Displaced.{same_reference, same_link, is_dropped-comes, straight}
+use Rattle.vt_dump_law.proofs.Names.{object_named-live, name_of-live, class-live, feature-reference}
 
 -- the name of the reference with this number
 abbrev pub reference_name : Metamodel → ℕ → List ℕ

@@ -13,7 +13,7 @@ use Rattle.vt_meta.specs.declared.document.ClassDocument.{ClassDocument}
 use Rattle.vt_meta.specs.declared.document.AttributeDocument.{AttributeDocument}
 use Rattle.vt_meta.specs.declared.document.ReferenceDocument.{ReferenceDocument}
 use Rattle.vt_meta.specs.declared.document.MetamodelDocument.{MetamodelDocument}
-use Rattle.vt_model_json.proofs.DumpLoads.PlainNames.{below-identifier, IsUtf8-is_name}
+use Rattle.vt_dump_law.proofs.PlainNames.{below-identifier, IsUtf8-is_name}
 
 -- ---- what holds of all that has one shape
 

@@ -1,0 +1,2 @@
+-- what the contracts say, in reading order
+pub mod Writable
