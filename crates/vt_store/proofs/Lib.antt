@@ -13,3 +13,5 @@ pub mod FitLemmas
 pub mod AssignmentLemmas
 pub mod StoreLemmas
 pub mod LinkageLemmas
+pub mod GoneLemmas
+pub mod BackLemmas

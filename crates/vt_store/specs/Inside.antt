@@ -6,3 +6,4 @@ pub mod Assigned
 pub mod Kept
 pub mod Levels
 pub mod Waiting
+pub mod Tested

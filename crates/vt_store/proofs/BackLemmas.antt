@@ -24,8 +24,8 @@ use Rattle.vt_store.proofs.NetLemmas.{stands_or_went}
 use Rattle.vt_store.proofs.SameLemmas.{Decides-same_object}
 use Rattle.vt_store.proofs.UndoneLemmas.{undone-edit_of}
 use Rattle.vt_store.proofs.FitLemmas.{Fits-more}
-use Rattle.vt_lists.specs.Inside.Tested.{Stays, LeadsBack, IsStep, IsUndone, IsTakenBack}
-use Rattle.vt_lists.proofs.GoneLemmas.{gone-effect}
+use Rattle.vt_store.specs.Inside.Tested.{Stays, LeadsBack, IsStep, IsUndone, IsTakenBack}
+use Rattle.vt_store.proofs.GoneLemmas.{gone-effect}
 
 less : {a b c : ℕ} → a ≤ b → b ≤ c → a ≤ c
 less {a} {b} {c} x y = omega arith

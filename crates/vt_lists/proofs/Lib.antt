@@ -1,4 +1,0 @@
-pub mod EffectLemmas
-pub mod InsideLemmas
-pub mod GoneLemmas
-pub mod BackLemmas

@@ -1,9 +1,0 @@
-// Where an item goes among others that rise.
-
-/// Where an item goes in a list that rises.
-#[derive(Clone, Copy, Debug)]
-pub enum Place {
-    /// It stands already.
-    Here,
-    Before(usize),
-}
