@@ -5,7 +5,7 @@
 mod changes;
 mod scene;
 
-ghost use Rattle.vt_meta.specs.Sound.{IsSound};
+ghost use Rattle.vt_model.specs.Sound.{IsSound};
 
 use changes::{create, delete, link, set};
 use scene::{METAMODEL, Scene};

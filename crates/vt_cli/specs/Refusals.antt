@@ -1,10 +1,10 @@
 -- The outcome of a file that is refused: its fault's code, name and place.
 use Rattle.std.specs.Prelude.{ℕ, ◌+◌, List, codes, Option, Some, None, Result, Ok, Err}
-use Rattle.vt_meta.specs.Metamodel.{Metamodel}
-use Rattle.vt_meta.specs.Model.{Model}
+use Rattle.vt_model.specs.Metamodel.{Metamodel}
+use Rattle.vt_model.specs.Model.{Model}
 use Rattle.vt_meta.specs.Faults as metamodel
-use Rattle.vt_meta.specs.declared.change.Refusal.{Refusal}
-use Rattle.vt_meta.specs.declared.change.Refusal.TheVariants.{UnknownObject, Gone, UnknownClass, AbstractClass, NameTaken, ReservedName, UnknownFeature, WrongKind, WrongValue, WrongTarget, ContainmentCycle, TooManyObjects}
+use Rattle.vt_model.specs.declared.change.Refusal.{Refusal}
+use Rattle.vt_model.specs.declared.change.Refusal.TheVariants.{UnknownObject, Gone, UnknownClass, AbstractClass, NameTaken, ReservedName, UnknownFeature, WrongKind, WrongValue, WrongTarget, ContainmentCycle, TooManyObjects}
 use Rattle.vt_model_json.specs.Loading as model
 use Rattle.vt_vql.specs.declared.fault.QueryFault.{QueryFault}
 use Rattle.vt_vql.specs.declared.fault.QueryFault.TheVariants as query

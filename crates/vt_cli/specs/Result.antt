@@ -2,8 +2,8 @@
 use Rattle.std.specs.Prelude.{◌≡◌, ◌⊎◌, ℕ, ◌+◌, List, ◌++◌, length, codes, nat_lt, if◌then◌else◌, Option, Some, None, Result, Ok, Err}
 use Rattle.vt_base.specs.declared.value.Value.{Value}
 use Rattle.vt_outside.specs.Shelf.{NamedFiles, file_at}
-use Rattle.vt_meta.specs.Metamodel.{Metamodel, enum_names}
-use Rattle.vt_meta.specs.Model.{Model}
+use Rattle.vt_model.specs.Metamodel.{Metamodel, enum_names}
+use Rattle.vt_model.specs.Model.{Model}
 use Rattle.vt_meta.specs.Reading.{meta_of}
 use Rattle.vt_graph.specs.Asked.{all_names}
 use Rattle.vt_query.specs.Tables.{StandFor}

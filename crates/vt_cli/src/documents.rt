@@ -1,6 +1,6 @@
 // From the bytes of a metamodel and of a model to the model.
 ghost use Rattle.std.specs.Prelude.{◌≡◌, IfOk, IfErr, Ok, Err};
-ghost use Rattle.vt_meta.specs.Sound.{IsSound};
+ghost use Rattle.vt_model.specs.Sound.{IsSound};
 ghost use Rattle.vt_cli.specs.Result.{metamodel_of, model_of, loaded_from};
 ghost use Rattle.vt_cli.specs.Inside.Prepared.{IsJudged};
 ghost use Rattle.vt_cli.specs.Inside.Seen.{loaded_of};

@@ -3,9 +3,9 @@ ghost use Rattle.std.specs.Prelude.{◌≡◌, ◌⊎◌, ◌++◌, ◌≤◌, [
 ghost use Rattle.std.specs.List.{AllByRecursion};
 ghost use Rattle.vt_base.specs.Names.{AreNamed};
 ghost use Rattle.vt_cli.specs.Lists.{match_line, match_list, shown_list, match_lists};
-ghost use Rattle.vt_meta.specs.Base.{counts_of};
-ghost use Rattle.vt_meta.specs.Sound.{IsSound};
-ghost use Rattle.vt_meta.specs.Valid.{IsValid};
+ghost use Rattle.vt_model.specs.Base.{counts_of};
+ghost use Rattle.vt_model.specs.Sound.{IsSound};
+ghost use Rattle.vt_model.specs.Valid.{IsValid};
 ghost use Rattle.vt_query.specs.Narrow.{IsNarrow};
 ghost use Rattle.vt_cli.specs.Result.{file_limit, IsListed, IsMatched, IsRefused};
 ghost use Rattle.vt_cli.specs.Inside.Prepared.{IsJudged};

@@ -1,7 +1,7 @@
 // The outcomes of files that are refused.
 ghost use Rattle.std.specs.Prelude.{◌≡◌, IfOk, Ok, Err, Result, Some};
-ghost use Rattle.vt_meta.specs.Metamodel.{Metamodel};
-ghost use Rattle.vt_meta.specs.Model.{Model};
+ghost use Rattle.vt_model.specs.Metamodel.{Metamodel};
+ghost use Rattle.vt_model.specs.Model.{Model};
 ghost use Rattle.vt_meta.specs.Reading.{IsFaultOf as IsMetaFaultOf};
 ghost use Rattle.vt_meta.specs.Faults.{Fault as MetaFaultDue};
 ghost use Rattle.vt_model_json.specs.Loading.{Fault as ModelFaultDue, IsFaultOf as IsModelFaultOf};

@@ -7,19 +7,19 @@ use Rattle.std.proofs.lemmas.Bool.{eqb-true}
 use Rattle.std.proofs.lemmas.List.Elements.{All-contains}
 use Rattle.std.proofs.lemmas.Map.Lookups.{exact_bytes}
 use Rattle.serde_json.specs.Data.{Data, no_members}
-use Rattle.vt_meta.specs.Metamodel.{Metamodel, isa, feature}
-use Rattle.vt_meta.specs.Model.{Model}
-use Rattle.vt_meta.specs.Assigning.{value_order}
-use Rattle.vt_meta.specs.Fits.{FitsAttribute}
-use Rattle.vt_meta.specs.Sound.{IsSound}
-use Rattle.vt_meta.specs.Valid.{IsValid}
-use Rattle.vt_meta.specs.declared.metamodel.AttrInfo.{AttrInfo}
-use Rattle.vt_meta.specs.declared.metamodel.Feature.{Feature}
-use Rattle.vt_meta.specs.declared.metamodel.Feature.TheVariants.{Attr}
-use Rattle.vt_meta.specs.declared.model.Object.{Object}
-use Rattle.vt_meta.specs.declared.model.AttributeValue.{AttributeValue}
-use Rattle.vt_meta.proofs.MemberLemmas.{Contains-head, Contains-behind, Contains-nil, Contains-from_filter}
-use Rattle.vt_meta.proofs.Valid.Containment.{same_object}
+use Rattle.vt_model.specs.Metamodel.{Metamodel, isa, feature}
+use Rattle.vt_model.specs.Model.{Model}
+use Rattle.vt_model.specs.Assigning.{value_order}
+use Rattle.vt_model.specs.Fits.{FitsAttribute}
+use Rattle.vt_model.specs.Sound.{IsSound}
+use Rattle.vt_model.specs.Valid.{IsValid}
+use Rattle.vt_model.specs.declared.metamodel.AttrInfo.{AttrInfo}
+use Rattle.vt_model.specs.declared.metamodel.Feature.{Feature}
+use Rattle.vt_model.specs.declared.metamodel.Feature.TheVariants.{Attr}
+use Rattle.vt_model.specs.declared.model.Object.{Object}
+use Rattle.vt_model.specs.declared.model.AttributeValue.{AttributeValue}
+use Rattle.vt_model.proofs.MemberLemmas.{Contains-head, Contains-behind, Contains-nil, Contains-from_filter}
+use Rattle.vt_model.proofs.Valid.Containment.{same_object}
 use Rattle.vt_model_json.specs.Dump.{attribute_name, value_data, attribute_members, values_of}
 use Rattle.vt_dump_law.proofs.Lists.{same_if_equal}
 use Rattle.vt_dump_law.proofs.Names.{same_object_of_number, class-live, feature-attribute}

@@ -5,22 +5,22 @@ use Rattle.std.specs.Cmp.{IsTotalOrder}
 use Rattle.std.proofs.lemmas.Bool.{eqb-true, eq-eqb}
 use Rattle.std.proofs.lemmas.Cmp.{then_total, on_total, nat_cmp_total}
 use Rattle.std.proofs.lemmas.List.Elements.{All-nil, All-contains}
-use Rattle.vt_meta.specs.Metamodel.{Metamodel}
-use Rattle.vt_meta.specs.Model.{Model, empty_model}
-use Rattle.vt_meta.specs.Assigning.{value_order, is_value_of}
-use Rattle.vt_meta.specs.Linking.{link_order}
-use Rattle.vt_meta.specs.Transaction.{transaction}
-use Rattle.vt_meta.specs.Fits.{FitsAttribute, FitsReference, HasItsValues}
-use Rattle.vt_meta.specs.Sound.{IsSound}
-use Rattle.vt_meta.specs.Valid.{IsValid}
-use Rattle.vt_meta.specs.declared.model.Object.{Object}
-use Rattle.vt_meta.specs.declared.model.AttributeValue.{AttributeValue}
-use Rattle.vt_meta.specs.declared.model.Link.{Link}
-use Rattle.vt_meta.specs.declared.change.Change.{Change}
-use Rattle.vt_meta.specs.declared.change.Change.TheVariants as change
-use Rattle.vt_meta.proofs.MemberLemmas.{Contains-nil, Contains-filter, Contains-from_filter}
-use Rattle.vt_meta.proofs.Valid.{IsValid-effect}
-use Rattle.vt_meta.proofs.Valid.Empty.{IsValid-empty_model}
+use Rattle.vt_model.specs.Metamodel.{Metamodel}
+use Rattle.vt_model.specs.Model.{Model, empty_model}
+use Rattle.vt_model.specs.Assigning.{value_order, is_value_of}
+use Rattle.vt_model.specs.Linking.{link_order}
+use Rattle.vt_model.specs.Transaction.{transaction}
+use Rattle.vt_model.specs.Fits.{FitsAttribute, FitsReference, HasItsValues}
+use Rattle.vt_model.specs.Sound.{IsSound}
+use Rattle.vt_model.specs.Valid.{IsValid}
+use Rattle.vt_model.specs.declared.model.Object.{Object}
+use Rattle.vt_model.specs.declared.model.AttributeValue.{AttributeValue}
+use Rattle.vt_model.specs.declared.model.Link.{Link}
+use Rattle.vt_model.specs.declared.change.Change.{Change}
+use Rattle.vt_model.specs.declared.change.Change.TheVariants as change
+use Rattle.vt_model.proofs.MemberLemmas.{Contains-nil, Contains-filter, Contains-from_filter}
+use Rattle.vt_model.proofs.Valid.{IsValid-effect}
+use Rattle.vt_model.proofs.Valid.Empty.{IsValid-empty_model}
 use Rattle.vt_model_json.specs.Loading.{creations, assignment, assignments, linkings, changes_of}
 use Rattle.vt_model_json.specs.Dump.{name_of, links_of, target_names}
 use Rattle.vt_dump_law.proofs.Made.{Makes, Makes-append, changes_from-Makes}

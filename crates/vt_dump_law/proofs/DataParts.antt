@@ -15,12 +15,12 @@ use Rattle.vt_base.specs.declared.numbers.AttrId.{AttrId}
 use Rattle.vt_base.specs.declared.value.Value.{Value}
 use Rattle.vt_base.specs.declared.value.Value.TheVariants as value
 use Rattle.vt_json.specs.Shape.{keys_of}
-use Rattle.vt_meta.specs.Metamodel.{Metamodel}
-use Rattle.vt_meta.specs.declared.metamodel.EnumInfo.{EnumInfo}
-use Rattle.vt_meta.specs.declared.metamodel.ClassInfo.{ClassInfo}
-use Rattle.vt_meta.specs.declared.metamodel.AttrInfo.{AttrInfo}
-use Rattle.vt_meta.specs.declared.metamodel.RefInfo.{RefInfo}
-use Rattle.vt_meta.proofs.MemberLemmas.{Contains-head, Contains-behind}
+use Rattle.vt_model.specs.Metamodel.{Metamodel}
+use Rattle.vt_model.specs.declared.metamodel.EnumInfo.{EnumInfo}
+use Rattle.vt_model.specs.declared.metamodel.ClassInfo.{ClassInfo}
+use Rattle.vt_model.specs.declared.metamodel.AttrInfo.{AttrInfo}
+use Rattle.vt_model.specs.declared.metamodel.RefInfo.{RefInfo}
+use Rattle.vt_model.proofs.MemberLemmas.{Contains-head, Contains-behind}
 use Rattle.vt_model_json.specs.Dump.{class_name, attribute_name, literal_name, value_data, texts}
 use Rattle.vt_dump_law.specs.Writable.{IsWritableValue}
 use Rattle.vt_dump_law.proofs.Links.{reference_name}

@@ -8,11 +8,11 @@ use Rattle.std.proofs.lemmas.List.Elements.{All-contains}
 use Rattle.json.proofs.Printed.Utf8.{IsUtf8-are_ascii}
 use Rattle.serde_json.specs.Data.{object, no_members, depth, items_depth, members_depth}
 use Rattle.vt_json.specs.Names.{is_name, continues_object_name}
-use Rattle.vt_meta.specs.Metamodel.{Metamodel}
-use Rattle.vt_meta.specs.Model.{Model}
-use Rattle.vt_meta.specs.Valid.{IsValid}
-use Rattle.vt_meta.specs.declared.model.Object.{Object}
-use Rattle.vt_meta.proofs.MemberLemmas.{Contains-head, Contains-behind}
+use Rattle.vt_model.specs.Metamodel.{Metamodel}
+use Rattle.vt_model.specs.Model.{Model}
+use Rattle.vt_model.specs.Valid.{IsValid}
+use Rattle.vt_model.specs.declared.model.Object.{Object}
+use Rattle.vt_model.proofs.MemberLemmas.{Contains-head, Contains-behind}
 use Rattle.vt_model_json.specs.Dump.{attribute_members, values_of, links_of, target_names, link_members, object_data, objects_data, model_data}
 use Rattle.vt_dump_law.specs.Writable.{IsWritableValue, IsWritable}
 use Rattle.vt_dump_law.proofs.Links.{reference_name}

@@ -6,17 +6,17 @@ use Rattle.std.proofs.lemmas.Bool.{and_parts, or_cases, eqb-true, not-true, fals
 use Rattle.std.proofs.lemmas.List.Elements.{All-contains}
 use Rattle.vt_base.specs.declared.numbers.ObjId.{ObjId}
 use Rattle.vt_base.specs.declared.numbers.RefId.{RefId}
-use Rattle.vt_meta.specs.Metamodel.{Metamodel}
-use Rattle.vt_meta.specs.Model.{Model}
-use Rattle.vt_meta.specs.Linking.{is_many, is_containment, opposite_of, has_single_opposite, link_back, displaces, is_dropped}
-use Rattle.vt_meta.specs.Containing.{Holds, LeadsOver, IsIn, is_inside, is_circular}
-use Rattle.vt_meta.specs.Sound.{IsSound}
-use Rattle.vt_meta.specs.Valid.{IsOnly, HasItsOpposite, IsOnlyContainer}
-use Rattle.vt_meta.specs.declared.model.Link.{Link}
-use Rattle.vt_meta.proofs.Valid.Sides.{LinkSide}
-use Rattle.vt_meta.proofs.Valid.Backs.{turned, IsBack-link_back}
-use Rattle.vt_meta.proofs.Valid.Dropped.{Comes}
-use Rattle.vt_meta.proofs.Valid.Containment.{same_object, IsAtOrIn, IsIn-trans, IsIn-Holds, is_inside-iff}
+use Rattle.vt_model.specs.Metamodel.{Metamodel}
+use Rattle.vt_model.specs.Model.{Model}
+use Rattle.vt_model.specs.Linking.{is_many, is_containment, opposite_of, has_single_opposite, link_back, displaces, is_dropped}
+use Rattle.vt_model.specs.Containing.{Holds, LeadsOver, IsIn, is_inside, is_circular}
+use Rattle.vt_model.specs.Sound.{IsSound}
+use Rattle.vt_model.specs.Valid.{IsOnly, HasItsOpposite, IsOnlyContainer}
+use Rattle.vt_model.specs.declared.model.Link.{Link}
+use Rattle.vt_model.proofs.Valid.Sides.{LinkSide}
+use Rattle.vt_model.proofs.Valid.Backs.{turned, IsBack-link_back}
+use Rattle.vt_model.proofs.Valid.Dropped.{Comes}
+use Rattle.vt_model.proofs.Valid.Containment.{same_object, IsAtOrIn, IsIn-trans, IsIn-Holds, is_inside-iff}
 
 -- equal numbers are of one reference
 pub same_reference : (r s : RefId) → r.0 ≡ s.0 → r ≡ s

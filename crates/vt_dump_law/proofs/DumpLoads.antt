@@ -2,10 +2,10 @@
 use Rattle.std.proofs.Common.{◌≡◌, ℕ, List, [], refl, ap, ◌∙◌}
 use Rattle.std.specs.Prelude.{Some, Ok}
 use Rattle.vt_json.specs.Json.{json_of}
-use Rattle.vt_meta.specs.Metamodel.{Metamodel}
-use Rattle.vt_meta.specs.Model.{Model}
+use Rattle.vt_model.specs.Metamodel.{Metamodel}
+use Rattle.vt_model.specs.Model.{Model}
 use Rattle.vt_meta.specs.Reading.{meta_of}
-use Rattle.vt_meta.specs.Valid.{IsValid}
+use Rattle.vt_model.specs.Valid.{IsValid}
 use Rattle.vt_model_json.specs.Dump.{model_data, dump}
 use Rattle.vt_model_json.specs.Loading.{finished, judged, shaped, loaded}
 use Rattle.vt_dump_law.specs.Writable.{IsWritable}

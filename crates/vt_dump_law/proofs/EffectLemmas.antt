@@ -5,18 +5,18 @@ use Rattle.vt_base.specs.declared.numbers.AttrId.{AttrId}
 use Rattle.vt_base.specs.declared.numbers.RefId.{RefId}
 use Rattle.vt_base.specs.declared.value.Value.{Value}
 use Rattle.vt_base.specs.declared.value.Kind.{Kind}
-use Rattle.vt_meta.specs.Metamodel.{Metamodel, feature}
-use Rattle.vt_meta.specs.Model.{Model, object_named}
-use Rattle.vt_meta.specs.Assigning.{attribute_of, kind_asked, has_kind, value_given, with_value}
-use Rattle.vt_meta.specs.Linking.{reference_of, is_target, linked}
-use Rattle.vt_meta.specs.Containing.{closes_cycle}
-use Rattle.vt_meta.specs.Effect.{first_of, unless_refused, effect}
-use Rattle.vt_meta.specs.declared.metamodel.Feature.{Feature}
-use Rattle.vt_meta.specs.declared.model.Object.{Object}
-use Rattle.vt_meta.specs.declared.model.Link.{Link}
-use Rattle.vt_meta.specs.declared.change.Given.{Given}
-use Rattle.vt_meta.specs.declared.change.Change.TheVariants as change
-use Rattle.vt_meta.specs.declared.change.Refusal.TheVariants.{ContainmentCycle}
+use Rattle.vt_model.specs.Metamodel.{Metamodel, feature}
+use Rattle.vt_model.specs.Model.{Model, object_named}
+use Rattle.vt_model.specs.Assigning.{attribute_of, kind_asked, has_kind, value_given, with_value}
+use Rattle.vt_model.specs.Linking.{reference_of, is_target, linked}
+use Rattle.vt_model.specs.Containing.{closes_cycle}
+use Rattle.vt_model.specs.Effect.{first_of, unless_refused, effect}
+use Rattle.vt_model.specs.declared.metamodel.Feature.{Feature}
+use Rattle.vt_model.specs.declared.model.Object.{Object}
+use Rattle.vt_model.specs.declared.model.Link.{Link}
+use Rattle.vt_model.specs.declared.change.Given.{Given}
+use Rattle.vt_model.specs.declared.change.Change.TheVariants as change
+use Rattle.vt_model.specs.declared.change.Refusal.TheVariants.{ContainmentCycle}
 
 -- a value that is given stands in place of the old one
 pub set_made : (meta : Metamodel) (g : Model) (name attr : List ℕ) (o : Object) (f : Feature)

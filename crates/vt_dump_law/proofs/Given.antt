@@ -7,16 +7,16 @@ use Rattle.vt_base.specs.declared.value.Value.{Value}
 use Rattle.vt_base.specs.declared.value.Value.TheVariants as value
 use Rattle.vt_base.specs.declared.value.Kind.{Kind}
 use Rattle.vt_base.specs.declared.value.Kind.TheVariants as kind
-use Rattle.vt_meta.specs.Metamodel.{Metamodel}
-use Rattle.vt_meta.specs.Declarations.{is_name, is_distinct}
-use Rattle.vt_meta.specs.Assigning.{is_literal, literal_named, has_kind, value_given}
-use Rattle.vt_meta.specs.Fits.{HasKind}
-use Rattle.vt_meta.specs.Sound.{IsAttributeKind}
-use Rattle.vt_meta.specs.declared.metamodel.EnumInfo.{EnumInfo}
-use Rattle.vt_meta.specs.declared.change.Given.{Given}
-use Rattle.vt_meta.specs.declared.change.Given.TheVariants as given
-use Rattle.vt_meta.proofs.Valid.Names.{times-is_distinct, is_name-itself}
-use Rattle.vt_meta.proofs.Sound.Places.{slice_get-below, position-only}
+use Rattle.vt_model.specs.Metamodel.{Metamodel}
+use Rattle.vt_model.specs.Words.{is_name, is_distinct}
+use Rattle.vt_model.specs.Assigning.{is_literal, literal_named, has_kind, value_given}
+use Rattle.vt_model.specs.Fits.{HasKind}
+use Rattle.vt_model.specs.Sound.{IsAttributeKind}
+use Rattle.vt_model.specs.declared.metamodel.EnumInfo.{EnumInfo}
+use Rattle.vt_model.specs.declared.change.Given.{Given}
+use Rattle.vt_model.specs.declared.change.Given.TheVariants as given
+use Rattle.vt_model.proofs.Valid.Names.{times-is_distinct, is_name-itself}
+use Rattle.vt_model.proofs.SearchLemmas.{slice_get-below, position-only}
 use Rattle.vt_model_json.specs.Dump.{literal_name}
 
 -- what is given for a value: a literal by its name, and nothing for an object

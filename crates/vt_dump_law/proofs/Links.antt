@@ -6,29 +6,29 @@ use Rattle.std.specs.Option.{option_map_or}
 use Rattle.std.proofs.lemmas.Bool.{and_parts, and_right, eqb-true, not_from_false}
 use Rattle.std.proofs.lemmas.List.Elements.{All-contains}
 use Rattle.std.proofs.lemmas.List.Folds.{Any-from_list_any}
-use Rattle.vt_meta.specs.Metamodel.{Metamodel, isa, feature}
-use Rattle.vt_meta.specs.Declarations.{is_name}
-use Rattle.vt_meta.specs.Model.{Model, object_named}
-use Rattle.vt_meta.specs.Linking.{is_target, is_link, stands, oriented, is_dropped, relinked, linked}
-use Rattle.vt_meta.specs.Containing.{is_circular, closes_cycle}
-use Rattle.vt_meta.specs.Effect.{first_of, unless_refused, effect}
-use Rattle.vt_meta.specs.Fits.{FitsReference}
-use Rattle.vt_meta.specs.Sound.{IsSound}
-use Rattle.vt_meta.specs.Valid.{IsValid, HasItsOpposite}
-use Rattle.vt_meta.specs.declared.metamodel.RefInfo.{RefInfo}
-use Rattle.vt_meta.specs.declared.metamodel.Feature.TheVariants.{Ref}
-use Rattle.vt_meta.specs.declared.model.Object.{Object}
-use Rattle.vt_meta.specs.declared.model.Link.{Link}
-use Rattle.vt_meta.specs.declared.change.Change.{Change}
-use Rattle.vt_meta.specs.declared.change.Change.TheVariants as change
-use Rattle.vt_meta.specs.declared.change.Refusal.TheVariants.{ContainmentCycle}
-use Rattle.vt_meta.proofs.MemberLemmas.{Contains-head, Contains-behind, Contains-nil, Contains-cons_cases, Contains-filter, Contains-from_filter}
-use Rattle.vt_meta.proofs.Valid.{IsValid-effect}
-use Rattle.vt_meta.proofs.Valid.Sides.{LinkSide, LinkSide-valid}
-use Rattle.vt_meta.proofs.Valid.Backs.{oriented-either, IsBack-link_back}
-use Rattle.vt_meta.proofs.Valid.Containment.{same_object}
-use Rattle.vt_meta.proofs.Valid.Dropped.{Comes}
-use Rattle.vt_meta.proofs.Valid.WithLink.{Contains-with_link_cases, Contains-with_link_old, Contains-with_link_new}
+use Rattle.vt_model.specs.Metamodel.{Metamodel, isa, feature}
+use Rattle.vt_model.specs.Words.{is_name}
+use Rattle.vt_model.specs.Model.{Model, object_named}
+use Rattle.vt_model.specs.Linking.{is_target, is_link, stands, oriented, is_dropped, relinked, linked}
+use Rattle.vt_model.specs.Containing.{is_circular, closes_cycle}
+use Rattle.vt_model.specs.Effect.{first_of, unless_refused, effect}
+use Rattle.vt_model.specs.Fits.{FitsReference}
+use Rattle.vt_model.specs.Sound.{IsSound}
+use Rattle.vt_model.specs.Valid.{IsValid, HasItsOpposite}
+use Rattle.vt_model.specs.declared.metamodel.RefInfo.{RefInfo}
+use Rattle.vt_model.specs.declared.metamodel.Feature.TheVariants.{Ref}
+use Rattle.vt_model.specs.declared.model.Object.{Object}
+use Rattle.vt_model.specs.declared.model.Link.{Link}
+use Rattle.vt_model.specs.declared.change.Change.{Change}
+use Rattle.vt_model.specs.declared.change.Change.TheVariants as change
+use Rattle.vt_model.specs.declared.change.Refusal.TheVariants.{ContainmentCycle}
+use Rattle.vt_model.proofs.MemberLemmas.{Contains-head, Contains-behind, Contains-nil, Contains-cons_cases, Contains-filter, Contains-from_filter}
+use Rattle.vt_model.proofs.Valid.{IsValid-effect}
+use Rattle.vt_model.proofs.Valid.Sides.{LinkSide, LinkSide-valid}
+use Rattle.vt_model.proofs.Valid.Backs.{oriented-either, IsBack-link_back}
+use Rattle.vt_model.proofs.Valid.Containment.{same_object}
+use Rattle.vt_model.proofs.Valid.Dropped.{Comes}
+use Rattle.vt_model.proofs.Valid.WithLink.{Contains-with_link_cases, Contains-with_link_old, Contains-with_link_new}
 use Rattle.vt_model_json.specs.Dump.{name_of}
 use Rattle.vt_dump_law.proofs.EffectLemmas.{link_made}
 use Rattle.vt_dump_law.proofs.Made.{Makes}

@@ -1,11 +1,11 @@
 -- Changes that are all made, one after the other.
 use Rattle.std.proofs.Common.{◌≡◌, ℕ, ◌+◌, List, [], ◌∷◌, ◌++◌, ap, sym, subst, ◌∙◌}
 use Rattle.std.specs.Prelude.{Ok}
-use Rattle.vt_meta.specs.Metamodel.{Metamodel}
-use Rattle.vt_meta.specs.Model.{Model}
-use Rattle.vt_meta.specs.Effect.{effect}
-use Rattle.vt_meta.specs.Transaction.{stopped_at, and_then, changes_from}
-use Rattle.vt_meta.specs.declared.change.Change.{Change}
+use Rattle.vt_model.specs.Metamodel.{Metamodel}
+use Rattle.vt_model.specs.Model.{Model}
+use Rattle.vt_model.specs.Effect.{effect}
+use Rattle.vt_model.specs.Transaction.{stopped_at, and_then, changes_from}
+use Rattle.vt_model.specs.declared.change.Change.{Change}
 
 -- no change is refused, and the last makes the other model
 abbrev pub Makes : Metamodel → Model → List Change → Model → Type 0

@@ -11,21 +11,21 @@ use Rattle.std.proofs.lemmas.List.Elements.{All-contains}
 use Rattle.vt_base.specs.declared.numbers.ClassId.{ClassId}
 use Rattle.vt_base.specs.declared.numbers.AttrId.{AttrId}
 use Rattle.vt_base.specs.declared.numbers.RefId.{RefId}
-use Rattle.vt_meta.specs.Metamodel.{Metamodel, isa, feature_names, is_attribute_of, is_reference_of, or_reference, feature}
-use Rattle.vt_meta.specs.Declarations.{is_name}
-use Rattle.vt_meta.specs.Model.{Model, object_named}
-use Rattle.vt_meta.specs.Sound.{IsSound}
-use Rattle.vt_meta.specs.Valid.{IsValid, IsConcrete, object_order}
-use Rattle.vt_meta.specs.declared.metamodel.ClassInfo.{ClassInfo}
-use Rattle.vt_meta.specs.declared.metamodel.AttrInfo.{AttrInfo}
-use Rattle.vt_meta.specs.declared.metamodel.RefInfo.{RefInfo}
-use Rattle.vt_meta.specs.declared.metamodel.Feature.TheVariants.{Attr, Ref}
-use Rattle.vt_meta.specs.declared.model.Object.{Object}
-use Rattle.vt_meta.proofs.MemberLemmas.{Contains-find, find-some}
-use Rattle.vt_meta.proofs.Valid.Counts.{count_by-append, count_by-map}
-use Rattle.vt_meta.proofs.Valid.Found.{IsAt-position}
-use Rattle.vt_meta.proofs.Valid.Names.{times-is_distinct, times-objects, is_name-itself}
-use Rattle.vt_meta.proofs.Sound.Places.{count_by-at, position-only}
+use Rattle.vt_model.specs.Metamodel.{Metamodel, isa, feature_names, is_attribute_of, is_reference_of, or_reference, feature}
+use Rattle.vt_model.specs.Words.{is_name}
+use Rattle.vt_model.specs.Model.{Model, object_named}
+use Rattle.vt_model.specs.Sound.{IsSound}
+use Rattle.vt_model.specs.Valid.{IsValid, IsConcrete, object_order}
+use Rattle.vt_model.specs.declared.metamodel.ClassInfo.{ClassInfo}
+use Rattle.vt_model.specs.declared.metamodel.AttrInfo.{AttrInfo}
+use Rattle.vt_model.specs.declared.metamodel.RefInfo.{RefInfo}
+use Rattle.vt_model.specs.declared.metamodel.Feature.TheVariants.{Attr, Ref}
+use Rattle.vt_model.specs.declared.model.Object.{Object}
+use Rattle.vt_model.proofs.MemberLemmas.{Contains-find, find-some}
+use Rattle.vt_model.proofs.Valid.Counts.{count_by-append, count_by-map}
+use Rattle.vt_model.proofs.Valid.Found.{IsAt-position}
+use Rattle.vt_model.proofs.Valid.Names.{times-is_distinct, times-objects, is_name-itself}
+use Rattle.vt_model.proofs.SearchLemmas.{count_by-at, position-only}
 use Rattle.vt_model_json.specs.Dump.{name_of}
 use Rattle.vt_dump_law.proofs.Lists.{only_one, count_by-filtered, same_if_equal}
 

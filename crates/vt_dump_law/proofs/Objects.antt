@@ -9,25 +9,25 @@ use Rattle.std.proofs.lemmas.List.Elements.{All-append, All-contains, Contains-a
 use Rattle.std.proofs.lemmas.Map.Keys.{sorted_tail}
 use Rattle.vt_base.specs.declared.numbers.ClassId.{ClassId}
 use Rattle.vt_base.specs.declared.value.Value.{Value}
-use Rattle.vt_meta.specs.Metamodel.{Metamodel, isa, class_named}
-use Rattle.vt_meta.specs.Declarations.{is_name}
-use Rattle.vt_meta.specs.Model.{Model, object_named, gone_named}
-use Rattle.vt_meta.specs.Creating.{is_abstract, is_taken, is_reserved, default_value, defaults_from, created}
-use Rattle.vt_meta.specs.Effect.{effect}
-use Rattle.vt_meta.specs.Fits.{IsLiveOf}
-use Rattle.vt_meta.specs.Sound.{IsSound}
-use Rattle.vt_meta.specs.Valid.{IsValid, IsConcrete, object_order}
-use Rattle.vt_meta.specs.declared.metamodel.ClassInfo.{ClassInfo}
-use Rattle.vt_meta.specs.declared.metamodel.AttrInfo.{AttrInfo}
-use Rattle.vt_meta.specs.declared.model.Object.{Object}
-use Rattle.vt_meta.specs.declared.model.GoneObject.{GoneObject}
-use Rattle.vt_meta.specs.declared.model.AttributeValue.{AttributeValue}
-use Rattle.vt_meta.specs.declared.change.Change.{Change}
-use Rattle.vt_meta.specs.declared.change.Change.TheVariants.{Create}
-use Rattle.vt_meta.proofs.MemberLemmas.{Contains-head, Contains-find}
-use Rattle.vt_meta.proofs.Valid.{IsValid-effect}
-use Rattle.vt_meta.proofs.Valid.Defaults.{All-defaults_from}
-use Rattle.vt_meta.proofs.Valid.Names.{same_name}
+use Rattle.vt_model.specs.Metamodel.{Metamodel, isa, class_named}
+use Rattle.vt_model.specs.Words.{is_name}
+use Rattle.vt_model.specs.Model.{Model, object_named, gone_named}
+use Rattle.vt_model.specs.Creating.{is_abstract, is_taken, is_reserved, default_value, defaults_from, created}
+use Rattle.vt_model.specs.Effect.{effect}
+use Rattle.vt_model.specs.Fits.{IsLiveOf}
+use Rattle.vt_model.specs.Sound.{IsSound}
+use Rattle.vt_model.specs.Valid.{IsValid, IsConcrete, object_order}
+use Rattle.vt_model.specs.declared.metamodel.ClassInfo.{ClassInfo}
+use Rattle.vt_model.specs.declared.metamodel.AttrInfo.{AttrInfo}
+use Rattle.vt_model.specs.declared.model.Object.{Object}
+use Rattle.vt_model.specs.declared.model.GoneObject.{GoneObject}
+use Rattle.vt_model.specs.declared.model.AttributeValue.{AttributeValue}
+use Rattle.vt_model.specs.declared.change.Change.{Change}
+use Rattle.vt_model.specs.declared.change.Change.TheVariants.{Create}
+use Rattle.vt_model.proofs.MemberLemmas.{Contains-head, Contains-find}
+use Rattle.vt_model.proofs.Valid.{IsValid-effect}
+use Rattle.vt_model.proofs.Valid.Defaults.{All-defaults_from}
+use Rattle.vt_model.proofs.Valid.Names.{same_name}
 use Rattle.vt_model_json.specs.Dump.{class_name}
 use Rattle.vt_dump_law.proofs.Made.{Makes}
 use Rattle.vt_dump_law.proofs.Lists.{below_head}

@@ -9,19 +9,19 @@ use Rattle.std.proofs.lemmas.List.Elements.{All-contains}
 use Rattle.std.proofs.lemmas.Map.Lookups.{exact_bytes}
 use Rattle.std.proofs.lemmas.Option.{slice_get_within}
 use Rattle.serde_json.specs.Data.{Data, array, no_members, put}
-use Rattle.vt_meta.specs.Metamodel.{Metamodel, isa, feature}
-use Rattle.vt_meta.specs.Model.{Model}
-use Rattle.vt_meta.specs.Fits.{FitsReference}
-use Rattle.vt_meta.specs.Sound.{IsSound}
-use Rattle.vt_meta.specs.Valid.{IsValid}
-use Rattle.vt_meta.specs.declared.metamodel.RefInfo.{RefInfo}
-use Rattle.vt_meta.specs.declared.metamodel.Feature.{Feature}
-use Rattle.vt_meta.specs.declared.metamodel.Feature.TheVariants.{Ref}
-use Rattle.vt_meta.specs.declared.model.Object.{Object}
-use Rattle.vt_meta.specs.declared.model.Link.{Link}
-use Rattle.vt_meta.proofs.MemberLemmas.{Contains-head, Contains-nil, Contains-map, Contains-filter, Contains-from_filter, Contains-insert_key_old}
-use Rattle.vt_meta.proofs.OrderedLemmas.{IsStrictlySortedBy-insert_key}
-use Rattle.vt_meta.proofs.Valid.Containment.{same_object}
+use Rattle.vt_model.specs.Metamodel.{Metamodel, isa, feature}
+use Rattle.vt_model.specs.Model.{Model}
+use Rattle.vt_model.specs.Fits.{FitsReference}
+use Rattle.vt_model.specs.Sound.{IsSound}
+use Rattle.vt_model.specs.Valid.{IsValid}
+use Rattle.vt_model.specs.declared.metamodel.RefInfo.{RefInfo}
+use Rattle.vt_model.specs.declared.metamodel.Feature.{Feature}
+use Rattle.vt_model.specs.declared.metamodel.Feature.TheVariants.{Ref}
+use Rattle.vt_model.specs.declared.model.Object.{Object}
+use Rattle.vt_model.specs.declared.model.Link.{Link}
+use Rattle.vt_model.proofs.MemberLemmas.{Contains-head, Contains-nil, Contains-map, Contains-filter, Contains-from_filter, Contains-insert_key_old}
+use Rattle.vt_model.proofs.OrderedLemmas.{IsStrictlySortedBy-insert_key}
+use Rattle.vt_model.proofs.Valid.Containment.{same_object}
 use Rattle.vt_model_json.specs.Dump.{name_of, links_of, target_names, texts, with_targets, link_members}
 use Rattle.vt_dump_law.proofs.Lists.{Contains-insert_key_here}
 use Rattle.vt_dump_law.proofs.Names.{same_object_of_number, class-live, feature-reference}

@@ -10,15 +10,15 @@ use Rattle.vt_base.specs.declared.value.Value.{Value}
 use Rattle.vt_base.specs.declared.value.Value.TheVariants as value
 use Rattle.vt_json.specs.Names.{is_name, continues_object_name, object_name}
 use Rattle.vt_json.specs.Shape.{items_in, list_of, entries_of, entries_in}
-use Rattle.vt_meta.specs.Metamodel.{Metamodel}
-use Rattle.vt_meta.specs.Model.{Model}
-use Rattle.vt_meta.specs.Sound.{IsSound}
-use Rattle.vt_meta.specs.Fits.{FitsReference}
-use Rattle.vt_meta.specs.Valid.{IsValid, object_order}
-use Rattle.vt_meta.specs.declared.model.Object.{Object}
-use Rattle.vt_meta.specs.declared.model.AttributeValue.{AttributeValue}
-use Rattle.vt_meta.specs.declared.model.Link.{Link}
-use Rattle.vt_meta.proofs.MemberLemmas.{Contains-head, Contains-behind, Contains-from_filter}
+use Rattle.vt_model.specs.Metamodel.{Metamodel}
+use Rattle.vt_model.specs.Model.{Model}
+use Rattle.vt_model.specs.Sound.{IsSound}
+use Rattle.vt_model.specs.Fits.{FitsReference}
+use Rattle.vt_model.specs.Valid.{IsValid, object_order}
+use Rattle.vt_model.specs.declared.model.Object.{Object}
+use Rattle.vt_model.specs.declared.model.AttributeValue.{AttributeValue}
+use Rattle.vt_model.specs.declared.model.Link.{Link}
+use Rattle.vt_model.proofs.MemberLemmas.{Contains-head, Contains-behind, Contains-from_filter}
 use Rattle.vt_model_json.specs.ModelDocument.{entry_shape, object_shape, rise, above_all, with_next, document_shape}
 use Rattle.vt_model_json.specs.Dump.{class_name, name_of, value_data, attribute_members, values_of, links_of, target_names, texts, link_members, object_data, objects_data, model_data}
 use Rattle.vt_dump_law.specs.Writable.{IsWritableValue, IsWritable}

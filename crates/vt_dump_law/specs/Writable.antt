@@ -3,7 +3,7 @@ use Rattle.std.specs.Prelude.{◌≡◌, ◌<◌, ◌^◌, ℤ, pos, negsuc, tru
 use Rattle.vt_base.specs.declared.value.Value.{Value}
 use Rattle.vt_base.specs.declared.value.Value.TheVariants.{Bool, Int, Text, Enum, Obj}
 use Rattle.vt_json.specs.Names.{is_name, continues_object_name}
-use Rattle.vt_meta.specs.Model.{Model}
+use Rattle.vt_model.specs.Model.{Model}
 
 -- a whole number from -2^63 to 2^63 - 1
 abbrev pub IsSigned64 : ℤ → Type 0

@@ -1,9 +1,9 @@
 // What holds of the dump of every valid model.
 ghost use Rattle.std.specs.Prelude.{ℕ, ◌≡◌, List, [], Ok};
-ghost use Rattle.vt_meta.specs.Metamodel.{Metamodel};
-ghost use Rattle.vt_meta.specs.Model.{Model};
+ghost use Rattle.vt_model.specs.Metamodel.{Metamodel};
+ghost use Rattle.vt_model.specs.Model.{Model};
 ghost use Rattle.vt_meta.specs.Reading.{meta_of};
-ghost use Rattle.vt_meta.specs.Valid.{IsValid};
+ghost use Rattle.vt_model.specs.Valid.{IsValid};
 ghost use Rattle.vt_model_json.specs.Dump.{dump};
 ghost use Rattle.vt_model_json.specs.Loading.{loaded};
 ghost use Rattle.vt_dump_law.specs.Writable.{IsWritable};

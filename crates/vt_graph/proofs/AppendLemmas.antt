@@ -3,7 +3,7 @@ use Rattle.std.proofs.Common.{◌≡◌, ℕ, ◌<◌, List, [], ◌∷◌, ◌+
 use Rattle.std.specs.Prelude.{is_err}
 use Rattle.std.proofs.lemmas.Option.{get_or_from_slice_get}
 use Rattle.vt_base.specs.declared.numbers.ClassId.{ClassId}
-use Rattle.vt_meta.specs.Metamodel.{Metamodel}
+use Rattle.vt_model.specs.Metamodel.{Metamodel}
 use Rattle.vt_slots.specs.declared.slot.Body.{Body}
 use Rattle.vt_slots.specs.declared.slot.Slot.{Slot}
 use Rattle.vt_slots.proofs.SlotsLemmas.{shorter_alike}

@@ -11,8 +11,8 @@ use Rattle.std.specs.declared.cmp.Ordering.TheVariants.{Equal}
 use Rattle.std.proofs.lemmas.Bool.{cases_eq, not_from_false, not_from_true}
 use Rattle.std.proofs.lemmas.Cmp.{on_total}
 use Rattle.vt_base.specs.declared.numbers.ObjId.{ObjId}
-use Rattle.vt_meta.proofs.MemberLemmas.{Contains-head, Contains-behind, Contains-map, Contains-insert_key_cases, Contains-insert_key_old}
-use Rattle.vt_meta.proofs.OrderedLemmas.{IsStrictlySortedBy-insert_key}
+use Rattle.vt_model.proofs.MemberLemmas.{Contains-head, Contains-behind, Contains-map, Contains-insert_key_cases, Contains-insert_key_old}
+use Rattle.vt_model.proofs.OrderedLemmas.{IsStrictlySortedBy-insert_key}
 use Rattle.vt_slots.specs.Slots.{slot_order, NumbersRise, slot_at, put_body, with_body}
 use Rattle.vt_slots.specs.declared.slot.Body.{Body}
 use Rattle.vt_slots.specs.declared.slot.Slot.{Slot}

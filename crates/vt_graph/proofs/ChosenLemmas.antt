@@ -6,7 +6,7 @@ use Rattle.std.specs.List.Sorted.{IsStrictlySortedBy}
 use Rattle.std.specs.declared.cmp.Ordering.{Ordering}
 use Rattle.std.specs.declared.cmp.Ordering.TheVariants.{Less}
 use Rattle.std.proofs.lemmas.List.Elements.{Contains-append_left, Contains-append_right, Contains-append_cases}
-use Rattle.vt_meta.proofs.MemberLemmas.{Contains-nil, Contains-head, Contains-behind, Contains-cons_cases}
+use Rattle.vt_model.proofs.MemberLemmas.{Contains-nil, Contains-head, Contains-behind, Contains-cons_cases}
 use Rattle.vt_graph.proofs.RisingLemmas.{rises-none, rises-cons, first_below, rest_rises}
 
 -- ---- the items

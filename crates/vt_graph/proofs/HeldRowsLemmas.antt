@@ -7,12 +7,12 @@ use Rattle.vt_base.specs.declared.numbers.ObjId.{ObjId}
 use Rattle.vt_base.specs.declared.numbers.ClassId.{ClassId}
 use Rattle.vt_base.specs.declared.numbers.AttrId.{AttrId}
 use Rattle.vt_base.specs.declared.numbers.RefId.{RefId}
-use Rattle.vt_meta.specs.Metamodel.{Metamodel}
-use Rattle.vt_meta.specs.Base.{class_rows, attribute_rows, reference_rows}
-use Rattle.vt_meta.specs.Fits.{FitsReference}
-use Rattle.vt_meta.specs.declared.metamodel.AttrInfo.{AttrInfo}
-use Rattle.vt_meta.specs.declared.metamodel.RefInfo.{RefInfo}
-use Rattle.vt_meta.proofs.BaseLemmas.{Ascends-class_rows, Ascends-attribute_rows, Ascends-reference_rows}
+use Rattle.vt_model.specs.Metamodel.{Metamodel}
+use Rattle.vt_model.specs.Base.{class_rows, attribute_rows, reference_rows}
+use Rattle.vt_model.specs.Fits.{FitsReference}
+use Rattle.vt_model.specs.declared.metamodel.AttrInfo.{AttrInfo}
+use Rattle.vt_model.specs.declared.metamodel.RefInfo.{RefInfo}
+use Rattle.vt_model.proofs.BaseLemmas.{Ascends-class_rows, Ascends-attribute_rows, Ascends-reference_rows}
 use Rattle.vt_slots.specs.declared.slot.Slot.{Slot}
 use Rattle.vt_graph.specs.Held.{Held}
 use Rattle.vt_graph.specs.Inside.Stored.{model_of}

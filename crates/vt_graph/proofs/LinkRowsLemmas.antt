@@ -12,14 +12,14 @@ use Rattle.vt_base.specs.declared.numbers.ObjId.{ObjId}
 use Rattle.vt_base.specs.declared.numbers.RefId.{RefId}
 use Rattle.vt_base.specs.declared.value.Value.{Value}
 use Rattle.vt_base.specs.declared.value.Value.TheVariants.{Obj}
-use Rattle.vt_meta.specs.Metamodel.{Metamodel, isa}
-use Rattle.vt_meta.specs.Base.{reference_rows}
-use Rattle.vt_meta.specs.Fits.{FitsReference}
-use Rattle.vt_meta.specs.declared.metamodel.RefInfo.{RefInfo}
-use Rattle.vt_meta.specs.declared.model.Object.{Object}
-use Rattle.vt_meta.specs.declared.model.Link.{Link}
-use Rattle.vt_meta.proofs.BaseLemmas.{Ascends-reference_rows}
-use Rattle.vt_meta.proofs.MemberLemmas.{Contains-nil, Contains-map, Contains-filter, Contains-from_filter}
+use Rattle.vt_model.specs.Metamodel.{Metamodel, isa}
+use Rattle.vt_model.specs.Base.{reference_rows}
+use Rattle.vt_model.specs.Fits.{FitsReference}
+use Rattle.vt_model.specs.declared.metamodel.RefInfo.{RefInfo}
+use Rattle.vt_model.specs.declared.model.Object.{Object}
+use Rattle.vt_model.specs.declared.model.Link.{Link}
+use Rattle.vt_model.proofs.BaseLemmas.{Ascends-reference_rows}
+use Rattle.vt_model.proofs.MemberLemmas.{Contains-nil, Contains-map, Contains-filter, Contains-from_filter}
 use Rattle.vt_slots.specs.Ends.{number_order, ObjectsRise, objects_of}
 use Rattle.vt_slots.specs.Slots.{NumbersRise, slot_at, body_at, ends_on, ends_at}
 use Rattle.vt_slots.specs.declared.slot.Side.TheVariants.{Outgoing}

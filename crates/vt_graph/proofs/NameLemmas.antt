@@ -3,9 +3,9 @@ use Rattle.std.proofs.Common.{◌≡◌, List, [], ◌∷◌, ◌++◌, map, ref
 use Rattle.std.specs.Prelude.{◌==◌, find, Some, option_map}
 use Rattle.vt_base.specs.Names.{ObjectName, object_name}
 use Rattle.vt_base.specs.declared.numbers.ObjId.{ObjId}
-use Rattle.vt_meta.specs.Model.{Model}
-use Rattle.vt_meta.specs.declared.model.Object.{Object}
-use Rattle.vt_meta.specs.declared.model.GoneObject.{GoneObject}
+use Rattle.vt_model.specs.Model.{Model}
+use Rattle.vt_model.specs.declared.model.Object.{Object}
+use Rattle.vt_model.specs.declared.model.GoneObject.{GoneObject}
 use Rattle.vt_graph.specs.Asked.{all_names, name_at, or_gone}
 
 -- what a live object is called, and what a deleted one is

@@ -5,14 +5,14 @@ use Rattle.std.specs.List.{filter_map, cons_option, list_any}
 use Rattle.std.specs.List.Sorted.{IsStrictlySortedBy}
 use Rattle.std.proofs.lemmas.Bool.{and_parts, not-true}
 use Rattle.vt_base.specs.declared.numbers.ObjId.{ObjId}
-use Rattle.vt_meta.specs.Declarations.{is_name, is_distinct}
-use Rattle.vt_meta.specs.Model.{object_named, gone_named}
-use Rattle.vt_meta.specs.Valid.{object_order}
-use Rattle.vt_meta.specs.Deleting.{gone_order}
-use Rattle.vt_meta.specs.declared.model.Object.{Object}
-use Rattle.vt_meta.specs.declared.model.GoneObject.{GoneObject}
-use Rattle.vt_meta.proofs.MemberLemmas.{Contains-find}
-use Rattle.vt_meta.proofs.PlacesLemmas.{same_name}
+use Rattle.vt_model.specs.Words.{is_name, is_distinct}
+use Rattle.vt_model.specs.Model.{object_named, gone_named}
+use Rattle.vt_model.specs.Valid.{object_order}
+use Rattle.vt_model.specs.Deleting.{gone_order}
+use Rattle.vt_model.specs.declared.model.Object.{Object}
+use Rattle.vt_model.specs.declared.model.GoneObject.{GoneObject}
+use Rattle.vt_model.proofs.MemberLemmas.{Contains-find}
+use Rattle.vt_model.proofs.PlacesLemmas.{same_name}
 use Rattle.vt_slots.specs.Slots.{slot_order, NumbersRise, NamesDiffer, slot_at, slot_named}
 use Rattle.vt_slots.specs.declared.slot.Body.{Body}
 use Rattle.vt_slots.specs.declared.slot.Slot.{Slot}

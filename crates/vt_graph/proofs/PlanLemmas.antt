@@ -4,9 +4,9 @@ use Rattle.std.specs.Prelude.{slice_get, Some, if◌then◌else◌}
 use Rattle.std.proofs.lemmas.List.{drop_more, length_push}
 use Rattle.vt_base.specs.declared.numbers.ObjId.{ObjId}
 use Rattle.vt_base.specs.declared.numbers.ClassId.{ClassId}
-use Rattle.vt_meta.specs.Metamodel.{Metamodel, isa}
-use Rattle.vt_meta.specs.declared.metamodel.ClassInfo.{ClassInfo}
-use Rattle.vt_meta.proofs.Sound.Places.{slice_get-below}
+use Rattle.vt_model.specs.Metamodel.{Metamodel, isa}
+use Rattle.vt_model.specs.declared.metamodel.ClassInfo.{ClassInfo}
+use Rattle.vt_model.proofs.SearchLemmas.{slice_get-below}
 use Rattle.vt_graph.specs.Inside.Planned.{above_from, plan_of, ArePlans, AreListings}
 use Rattle.vt_graph.specs.declared.plan.ClassPlan.{ClassPlan}
 

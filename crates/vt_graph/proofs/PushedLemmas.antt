@@ -11,10 +11,10 @@ use Rattle.vt_base.specs.declared.numbers.ClassId.{ClassId}
 use Rattle.vt_base.specs.declared.numbers.RefId.{RefId}
 use Rattle.vt_base.specs.declared.value.Value.{Value}
 use Rattle.vt_base.proofs.RowsLemmas.{ascends-none}
-use Rattle.vt_meta.specs.Metamodel.{Metamodel, isa}
-use Rattle.vt_meta.specs.Creating.{is_taken, default_value, with_default, defaults_from, created}
-use Rattle.vt_meta.specs.declared.metamodel.AttrInfo.{AttrInfo}
-use Rattle.vt_meta.specs.declared.model.Object.{Object}
+use Rattle.vt_model.specs.Metamodel.{Metamodel, isa}
+use Rattle.vt_model.specs.Creating.{is_taken, default_value, with_default, defaults_from, created}
+use Rattle.vt_model.specs.declared.metamodel.AttrInfo.{AttrInfo}
+use Rattle.vt_model.specs.declared.model.Object.{Object}
 use Rattle.vt_slots.specs.Values.{AttributesRise}
 use Rattle.vt_slots.specs.Ends.{EndList, ObjectsRise, reference_order, objects_of, capacity_of}
 use Rattle.vt_slots.specs.Slots.{slot_at, slot_named, ends_on, ends_at}

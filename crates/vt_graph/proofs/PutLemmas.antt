@@ -11,11 +11,11 @@ use Rattle.std.proofs.lemmas.List.Kept.{IsStrictlySortedBy-filter}
 use Rattle.vt_base.specs.declared.numbers.ObjId.{ObjId}
 use Rattle.vt_base.specs.declared.numbers.AttrId.{AttrId}
 use Rattle.vt_base.specs.declared.value.Value.{Value}
-use Rattle.vt_meta.specs.Assigning.{value_order, is_value_of}
-use Rattle.vt_meta.specs.declared.model.AttributeValue.{AttributeValue}
-use Rattle.vt_meta.proofs.MemberLemmas.{Contains-find, Contains-filter, Contains-from_filter, Contains-insert_key_cases, Contains-insert_key_old}
-use Rattle.vt_meta.proofs.OrderedLemmas.{IsStrictlySortedBy-insert_key}
-use Rattle.vt_meta.proofs.Valid.Defaults.{is_value_of-yes}
+use Rattle.vt_model.specs.Assigning.{value_order, is_value_of}
+use Rattle.vt_model.specs.declared.model.AttributeValue.{AttributeValue}
+use Rattle.vt_model.proofs.MemberLemmas.{Contains-find, Contains-filter, Contains-from_filter, Contains-insert_key_cases, Contains-insert_key_old}
+use Rattle.vt_model.proofs.OrderedLemmas.{IsStrictlySortedBy-insert_key}
+use Rattle.vt_model.proofs.Valid.Defaults.{is_value_of-yes}
 use Rattle.vt_slots.specs.Values.{HasPlace, place_of, value_in, put_in, with_held}
 use Rattle.vt_slots.specs.Slots.{NumbersRise, slot_at, body_at, slot_value, with_value_at, with_slot_value}
 use Rattle.vt_slots.specs.declared.values.Held.{Held}

@@ -10,7 +10,7 @@ use Rattle.std.proofs.lemmas.List.Elements.{All-contains}
 use Rattle.vt_base.specs.declared.numbers.ObjId.{ObjId}
 use Rattle.vt_base.specs.declared.numbers.AttrId.{AttrId}
 use Rattle.vt_base.specs.declared.value.Value.{Value}
-use Rattle.vt_meta.proofs.MemberLemmas.{Contains-head, Contains-behind, Contains-find, find-some}
+use Rattle.vt_model.proofs.MemberLemmas.{Contains-head, Contains-behind, Contains-find, find-some}
 use Rattle.vt_slots.specs.Ends.{EndList}
 use Rattle.vt_slots.specs.Slots.{slot_order, NumbersRise, slot_at, body_at, ends_on, ends_at, put_body, with_body, with_value_at, put_value_in, with_slot_value}
 use Rattle.vt_slots.specs.declared.slot.Side.{Side}

@@ -9,10 +9,10 @@ use Rattle.vt_base.specs.declared.numbers.ObjId.{ObjId}
 use Rattle.vt_base.specs.declared.numbers.ClassId.{ClassId}
 use Rattle.vt_base.specs.declared.numbers.AttrId.{AttrId}
 use Rattle.vt_base.specs.declared.value.Value.{Value}
-use Rattle.vt_meta.specs.Metamodel.{Metamodel, isa}
-use Rattle.vt_meta.specs.Declarations.{is_distinct}
-use Rattle.vt_meta.specs.Assigning.{value_order, is_value_of, with_default_value}
-use Rattle.vt_meta.specs.declared.model.AttributeValue.{AttributeValue}
+use Rattle.vt_model.specs.Metamodel.{Metamodel, isa}
+use Rattle.vt_model.specs.Words.{is_distinct}
+use Rattle.vt_model.specs.Assigning.{value_order, is_value_of, with_default_value}
+use Rattle.vt_model.specs.declared.model.AttributeValue.{AttributeValue}
 use Rattle.vt_slots.specs.Values.{HasPlace, put_in}
 use Rattle.vt_slots.specs.Ends.{objects_of}
 use Rattle.vt_slots.specs.Slots.{slot_at, put_value_in, with_value_at, with_slot_value, ends_at}

@@ -11,10 +11,10 @@ use Rattle.std.proofs.lemmas.Cmp.{on_total, then_total, tied_itself}
 use Rattle.vt_base.specs.declared.numbers.ObjId.{ObjId}
 use Rattle.vt_base.specs.declared.numbers.AttrId.{AttrId}
 use Rattle.vt_base.specs.declared.value.Value.{Value}
-use Rattle.vt_meta.specs.Metamodel.{Metamodel}
-use Rattle.vt_meta.specs.Assigning.{value_order, is_value_of}
-use Rattle.vt_meta.specs.declared.model.AttributeValue.{AttributeValue}
-use Rattle.vt_meta.proofs.MemberLemmas.{Contains-nil, Contains-find}
+use Rattle.vt_model.specs.Metamodel.{Metamodel}
+use Rattle.vt_model.specs.Assigning.{value_order, is_value_of}
+use Rattle.vt_model.specs.declared.model.AttributeValue.{AttributeValue}
+use Rattle.vt_model.proofs.MemberLemmas.{Contains-nil, Contains-find}
 use Rattle.vt_slots.specs.Values.{AttributesRise, attribute_order, place_of, value_in}
 use Rattle.vt_slots.specs.Slots.{slot_order, NumbersRise, slot_at, slot_value}
 use Rattle.vt_slots.specs.declared.values.Held.{Held}

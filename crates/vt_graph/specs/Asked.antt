@@ -6,11 +6,11 @@ use Rattle.vt_base.specs.declared.numbers.AttrId.{AttrId}
 use Rattle.vt_base.specs.declared.numbers.RefId.{RefId}
 use Rattle.vt_base.specs.declared.value.Value.{Value}
 use Rattle.vt_base.specs.Names.{ObjectName}
-use Rattle.vt_meta.specs.Model.{Model, object_named, gone_named, object_names}
-use Rattle.vt_meta.specs.Assigning.{is_value_of}
-use Rattle.vt_meta.specs.declared.model.Object.{Object}
-use Rattle.vt_meta.specs.declared.model.GoneObject.{GoneObject}
-use Rattle.vt_meta.specs.declared.model.Link.{Link}
+use Rattle.vt_model.specs.Model.{Model, object_named, gone_named, object_names}
+use Rattle.vt_model.specs.Assigning.{is_value_of}
+use Rattle.vt_model.specs.declared.model.Object.{Object}
+use Rattle.vt_model.specs.declared.model.GoneObject.{GoneObject}
+use Rattle.vt_model.specs.declared.model.Link.{Link}
 use Rattle.vt_slots.specs.declared.slot.Side.{Side}
 use Rattle.vt_slots.specs.declared.slot.Side.TheVariants.{Outgoing, Incoming}
 use Rattle.vt_graph.specs.declared.seen.Seen.{Seen}

@@ -2,10 +2,10 @@
 use Rattle.std.specs.Prelude.{◌≢◌, ℕ, ◌<◌, ◌==◌, filter, not, All}
 use Rattle.std.specs.BTreeSet.{insert_key}
 use Rattle.vt_base.specs.declared.numbers.ObjId.{ObjId}
-use Rattle.vt_meta.specs.Model.{Model}
-use Rattle.vt_meta.specs.Deleting.{with_gone}
-use Rattle.vt_meta.specs.Valid.{object_order}
-use Rattle.vt_meta.specs.declared.model.Object.{Object}
+use Rattle.vt_model.specs.Model.{Model}
+use Rattle.vt_model.specs.Deleting.{with_gone}
+use Rattle.vt_model.specs.Valid.{object_order}
+use Rattle.vt_model.specs.declared.model.Object.{Object}
 
 -- ---- what an object has
 

@@ -2,7 +2,7 @@
 ghost use Rattle.std.specs.Prelude.{◌≡◌};
 
 use std::marker::Model;
-use vt_meta::{Metamodel, Object};
+use vt_model::{Metamodel, Object};
 use vt_slots::Body;
 
 /// An object that was deleted, with the room for the links that it had. It has no values and no

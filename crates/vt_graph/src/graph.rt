@@ -6,7 +6,7 @@ ghost use Rattle.vt_graph.specs.Room.{HasRoom, class_kept};
 use crate::plan::ClassPlan;
 use std::marker::Model;
 use vt_base::{ClassId, List, ObjId};
-use vt_meta::Metamodel;
+use vt_model::Metamodel;
 use vt_slots::Slots;
 
 /// A model by its slots: objects are found by number and by name, links stand at both their ends,

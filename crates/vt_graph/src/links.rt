@@ -2,7 +2,7 @@
 ghost use Rattle.std.specs.Prelude.{◌≡◌, ◌↔◌, not, All, Contains, filter, map, option_map, IsSome, IsTrue, IsOk, OnOk, OnErr};
 ghost use Rattle.std.specs.BTreeSet.{insert_key};
 ghost use Rattle.std.specs.Option.{option_copied};
-ghost use Rattle.vt_meta.specs.Linking.{link_order, is_link};
+ghost use Rattle.vt_model.specs.Linking.{link_order, is_link};
 ghost use Rattle.vt_slots.specs.Ends.{ReferencesRise, ObjectsRise, objects_of};
 ghost use Rattle.vt_slots.specs.Slots.{body_at, ends_on, ends_at, bare};
 ghost use Rattle.vt_slots.specs.declared.slot.Side.TheVariants.{Outgoing, Incoming};
@@ -13,7 +13,7 @@ ghost use Rattle.vt_graph.specs.Inside.Ended.{AllEndsRise, AllEndsFit, AddsLink,
 
 use crate::graph::Graph;
 use vt_base::{NoMemory, ObjId, RefId};
-use vt_meta::Link;
+use vt_model::Link;
 use vt_slots::{EndList, Ends, Side, Slots};
 
 impl Graph {

@@ -1,6 +1,6 @@
 // What is made for a new object: its body, and its places in the listings.
 ghost use Rattle.std.specs.Prelude.{◌≡◌, ◌<◌, All, IfOk, OnOk, OnErr, length, map};
-ghost use Rattle.vt_meta.specs.Creating.{default_value};
+ghost use Rattle.vt_model.specs.Creating.{default_value};
 ghost use Rattle.vt_slots.specs.Values.{AttributesRise};
 ghost use Rattle.vt_graph.specs.Inside.Making.{default_place, new_body, changed_at, with_last, without_last};
 

@@ -1,13 +1,13 @@
 // A graph without an object, and what is worked out once for it.
 ghost use Rattle.std.specs.Prelude.{◌≡◌, ◌≤◌, [], IfOk, length};
-ghost use Rattle.vt_meta.specs.Model.{empty_model};
+ghost use Rattle.vt_model.specs.Model.{empty_model};
 ghost use Rattle.vt_graph.specs.Inside.Planned.{attributes_from, above_from, plan_of, ArePlans, AreListings};
 
 use crate::Graph;
 use crate::plan::{AttributePlan, ClassPlan};
 use std::alloc::Global;
 use vt_base::{AttrId, ClassId, List, NoMemory, ObjId};
-use vt_meta::{AttrInfo, Metamodel};
+use vt_model::{AttrInfo, Metamodel};
 use vt_slots::Slots;
 
 fn attributes_of(

@@ -5,7 +5,7 @@ use crate::Graph;
 use vt_base::{Names, ObjId, Text};
 
 impl Names for Graph {
-    ghost use Rattle.vt_meta.specs.Metamodel.{enum_names};
+    ghost use Rattle.vt_model.specs.Metamodel.{enum_names};
     ghost use Rattle.vt_graph.specs.Asked.{all_names};
 
     ghost enums = { λ g. enum_names g.meta };

@@ -1,6 +1,6 @@
 // Objects that come and go.
 ghost use Rattle.std.specs.Prelude.{◌≡◌, ◌<◌, ◌≤◌, false, length, Contains, IsSome, OnOk, OnErr, Some};
-ghost use Rattle.vt_meta.specs.Creating.{is_taken, created};
+ghost use Rattle.vt_model.specs.Creating.{is_taken, created};
 ghost use Rattle.vt_graph.specs.Asked.{live_at};
 ghost use Rattle.vt_graph.specs.Room.{KeepsRoom, KeepsOthersRoom, capacity_at, capacity_in, class_kept};
 ghost use Rattle.vt_graph.specs.Passing.{HasNoLinks, HasNoValues, IsLast, with_retracted, with_buried, with_raised};
@@ -9,7 +9,7 @@ use crate::made::{list, new_body, unlist};
 use crate::{Buried, Graph};
 use std::alloc::Global;
 use vt_base::{ClassId, NoMemory, ObjId, RefId, Text};
-use vt_meta::Object;
+use vt_model::Object;
 use vt_slots::Side;
 
 impl Graph {

@@ -2,8 +2,8 @@
 ghost use Rattle.std.specs.Prelude.{◌≡◌, ◌+◌, ◌<◌, ◌≤◌, ◌∷◌, ◌++◌, [], All, IfOk, OnOk, length, map, slice_get, is_some};
 ghost use Rattle.std.specs.Option.{option_copied};
 ghost use Rattle.vt_base.specs.declared.value.Value.TheVariants.{Obj};
-ghost use Rattle.vt_meta.specs.Base.{class_rows as rows_of_class, attribute_rows as rows_of_attribute, reference_rows as rows_of_reference};
-ghost use Rattle.vt_meta.specs.Fits.{FitsReference};
+ghost use Rattle.vt_model.specs.Base.{class_rows as rows_of_class, attribute_rows as rows_of_attribute, reference_rows as rows_of_reference};
+ghost use Rattle.vt_model.specs.Fits.{FitsReference};
 ghost use Rattle.vt_slots.specs.Slots.{body_at, slot_value};
 ghost use Rattle.vt_graph.specs.Inside.Rowed.{listed, live_rows, value_rows, targets_in, target_rows, link_rows};
 

@@ -2,7 +2,7 @@
 ghost use Rattle.std.specs.Prelude.{◌≡◌, ◌<◌, ◌≤◌, All};
 ghost use Rattle.std.specs.Option.{option_copied};
 ghost use Rattle.vt_base.specs.declared.numbers.AttrId.{AttrId};
-ghost use Rattle.vt_meta.specs.Assigning.{with_default_value};
+ghost use Rattle.vt_model.specs.Assigning.{with_default_value};
 ghost use Rattle.vt_slots.specs.Values.{AttributesRise, value_in};
 ghost use Rattle.vt_slots.specs.Slots.{slot_value};
 ghost use Rattle.vt_graph.specs.Asked.{value_at};

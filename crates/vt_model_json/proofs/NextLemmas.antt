@@ -9,20 +9,20 @@ use Rattle.vt_base.specs.declared.numbers.AttrId.{AttrId}
 use Rattle.vt_base.specs.declared.value.Value.{Value}
 use Rattle.vt_base.specs.declared.value.Kind.{Kind}
 use Rattle.vt_json.specs.Shape.{◌>>=◌}
-use Rattle.vt_meta.specs.Metamodel.{Metamodel, class_named}
-use Rattle.vt_meta.specs.Model.{Model, empty_model, object_named, feature_at}
-use Rattle.vt_meta.specs.Creating.{new_number, default_value, created}
-use Rattle.vt_meta.specs.Assigning.{attribute_of, kind_asked, value_given, with_value, with_default_value}
-use Rattle.vt_meta.specs.Linking.{stands, oriented, relinked, linked}
-use Rattle.vt_meta.specs.Effect.{link_asked, effect}
-use Rattle.vt_meta.specs.Transaction.{stopped_at, and_then, changes_from, transaction}
-use Rattle.vt_meta.specs.declared.model.Object.{Object}
-use Rattle.vt_meta.specs.declared.model.Link.{Link}
-use Rattle.vt_meta.specs.declared.change.Given.{Given}
-use Rattle.vt_meta.specs.declared.change.Change.{Change}
-use Rattle.vt_meta.specs.declared.change.Change.TheVariants as change
-use Rattle.vt_meta.specs.declared.change.Refusal.{Refusal}
-use Rattle.vt_meta.proofs.Valid.Passing.{refusal-effect}
+use Rattle.vt_model.specs.Metamodel.{Metamodel, class_named}
+use Rattle.vt_model.specs.Model.{Model, empty_model, object_named, feature_at}
+use Rattle.vt_model.specs.Creating.{new_number, default_value, created}
+use Rattle.vt_model.specs.Assigning.{attribute_of, kind_asked, value_given, with_value, with_default_value}
+use Rattle.vt_model.specs.Linking.{stands, oriented, relinked, linked}
+use Rattle.vt_model.specs.Effect.{link_asked, effect}
+use Rattle.vt_model.specs.Transaction.{stopped_at, and_then, changes_from, transaction}
+use Rattle.vt_model.specs.declared.model.Object.{Object}
+use Rattle.vt_model.specs.declared.model.Link.{Link}
+use Rattle.vt_model.specs.declared.change.Given.{Given}
+use Rattle.vt_model.specs.declared.change.Change.{Change}
+use Rattle.vt_model.specs.declared.change.Change.TheVariants as change
+use Rattle.vt_model.specs.declared.change.Refusal.{Refusal}
+use Rattle.vt_model.proofs.Valid.Passing.{refusal-effect}
 use Rattle.vt_model_json.specs.ModelDocument.{number_at, rise, above_all}
 use Rattle.vt_model_json.specs.Loading.{creations, assignment, assignments, linkings, changes_of}
 use Rattle.vt_model_json.specs.declared.document.Entry.{Entry}

@@ -1,8 +1,8 @@
 -- Where a list of changes stops.
 use Rattle.std.proofs.Common.{ℕ, ap}
 use Rattle.std.specs.Prelude.{Result}
-use Rattle.vt_meta.specs.Model.{Model}
-use Rattle.vt_meta.specs.Transaction.{Stop, and_then}
+use Rattle.vt_model.specs.Model.{Model}
+use Rattle.vt_model.specs.Transaction.{Stop, and_then}
 use Rattle.vt_model_json.specs.Loading.{finished, IsFaultOf}
 use Rattle.vt_model_json.specs.Inside.Stops.{IsStopOf}
 use Rattle.vt_model_json.specs.declared.loading.ModelFault.{ModelFault}

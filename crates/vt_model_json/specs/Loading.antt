@@ -2,13 +2,13 @@
 use Rattle.std.specs.Prelude.{◌≡◌, ℕ, ◌+◌, List, [], ◌∷◌, ◌++◌, map, flat_map, Option, Some, None, Result, Ok, Err}
 use Rattle.serde_json.specs.Data.{Data}
 use Rattle.vt_json.specs.Json.{json_of}
-use Rattle.vt_meta.specs.Metamodel.{Metamodel}
-use Rattle.vt_meta.specs.Model.{Model, empty_model}
-use Rattle.vt_meta.specs.Transaction.{Stop, transaction}
-use Rattle.vt_meta.specs.declared.change.Given.{Given}
-use Rattle.vt_meta.specs.declared.change.Change.{Change}
-use Rattle.vt_meta.specs.declared.change.Change.TheVariants.{Create, Set, Unset, Link}
-use Rattle.vt_meta.specs.declared.change.Refusal.{Refusal}
+use Rattle.vt_model.specs.Metamodel.{Metamodel}
+use Rattle.vt_model.specs.Model.{Model, empty_model}
+use Rattle.vt_model.specs.Transaction.{Stop, transaction}
+use Rattle.vt_model.specs.declared.change.Given.{Given}
+use Rattle.vt_model.specs.declared.change.Change.{Change}
+use Rattle.vt_model.specs.declared.change.Change.TheVariants.{Create, Set, Unset, Link}
+use Rattle.vt_model.specs.declared.change.Refusal.{Refusal}
 use Rattle.vt_model_json.specs.ModelDocument.{number_at, document_shape}
 use Rattle.vt_model_json.specs.declared.document.ObjectDocument.{ObjectDocument}
 use Rattle.vt_model_json.specs.declared.document.ModelDocument.{ModelDocument}

@@ -1,12 +1,12 @@
 // From bytes to a model: the changes of the document, made one after the other.
 ghost use Rattle.std.specs.Prelude.{◌≡◌, ◌+◌, ◌++◌, ◌≤◌, IfOk, IfErr, OnOk, Some, None, Ok, Err, map, flat_map, true};
-ghost use Rattle.vt_meta.specs.Metamodel.{Metamodel};
-ghost use Rattle.vt_meta.specs.Model.{empty_model};
-ghost use Rattle.vt_meta.specs.declared.change.Change.TheVariants as change;
-ghost use Rattle.vt_meta.specs.Effect.{effect};
-ghost use Rattle.vt_meta.specs.Transaction.{changes_from, stopped_at, transaction};
-ghost use Rattle.vt_meta.specs.Sound.{IsSound};
-ghost use Rattle.vt_meta.specs.Base.{base_of};
+ghost use Rattle.vt_model.specs.Metamodel.{Metamodel};
+ghost use Rattle.vt_model.specs.Model.{empty_model};
+ghost use Rattle.vt_model.specs.declared.change.Change.TheVariants as change;
+ghost use Rattle.vt_model.specs.Effect.{effect};
+ghost use Rattle.vt_model.specs.Transaction.{changes_from, stopped_at, transaction};
+ghost use Rattle.vt_model.specs.Sound.{IsSound};
+ghost use Rattle.vt_model.specs.Base.{base_of};
 ghost use Rattle.vt_model_json.specs.ModelDocument.{rise, above_all};
 ghost use Rattle.vt_model_json.specs.Loading.{creations, assignment, assignments, linkings, changes_of, loaded, finished, judged, IsFaultOf};
 ghost use Rattle.vt_model_json.specs.Difference.{IsFromEmpty};

@@ -1,7 +1,7 @@
 //! Documents with the answer that each must give, and the rows of the models that they make.
 ghost use Rattle.std.specs.Prelude.{IfOk};
-ghost use Rattle.vt_meta.specs.Sound.{IsSound};
-ghost use Rattle.vt_meta.specs.Base.{base_of};
+ghost use Rattle.vt_model.specs.Sound.{IsSound};
+ghost use Rattle.vt_model.specs.Base.{base_of};
 ghost use Rattle.vt_model_json.specs.Difference.{IsFromEmpty};
 
 use crate::{ModelFault, read_model, write_model};

@@ -1,7 +1,7 @@
 //! What a store keeps of each object: its number, its name and its class, and while it lives its
 //! values and the ends of its links.
 //!
-//! It stands on `vt_base` and `vt_meta`, and finds names by `indexmap`. It knows no metamodel. Read
+//! It stands on `vt_base` and `vt_model`, and finds names by `indexmap`. It knows no metamodel. Read
 //! `specs/Values.antt`, `specs/Ends.antt`, then `specs/Slots.antt`.
 #![tactic(auto)]
 

@@ -5,20 +5,20 @@ use Rattle.vt_base.specs.declared.numbers.ObjId.{ObjId}
 use Rattle.vt_base.specs.declared.numbers.AttrId.{AttrId}
 use Rattle.vt_base.specs.declared.value.Value.{Value}
 use Rattle.vt_base.specs.declared.value.Kind.{Kind}
-use Rattle.vt_meta.specs.Metamodel.{Metamodel, feature}
-use Rattle.vt_meta.specs.Model.{Model, object_named, never_existed, was_deleted}
-use Rattle.vt_meta.specs.Assigning.{attribute_of, kind_asked, has_kind, value_given, with_default_value}
-use Rattle.vt_meta.specs.Creating.{default_value}
-use Rattle.vt_meta.specs.Effect.{first_of, effect}
-use Rattle.vt_meta.specs.Valid.{IsValid}
-use Rattle.vt_meta.specs.declared.metamodel.Feature.{Feature}
-use Rattle.vt_meta.specs.declared.model.Object.{Object}
-use Rattle.vt_meta.specs.declared.change.Given.{Given}
-use Rattle.vt_meta.specs.declared.change.Change.TheVariants.{Set, Unset}
-use Rattle.vt_meta.specs.declared.change.Refusal.{Refusal}
-use Rattle.vt_meta.specs.declared.change.Refusal.TheVariants.{UnknownObject, Gone, UnknownFeature, WrongKind, WrongValue}
-use Rattle.vt_meta.proofs.MemberLemmas.{Contains-find}
-use Rattle.vt_meta.proofs.Valid.Found.{HasAttribute-feature}
+use Rattle.vt_model.specs.Metamodel.{Metamodel, feature}
+use Rattle.vt_model.specs.Model.{Model, object_named, never_existed, was_deleted}
+use Rattle.vt_model.specs.Assigning.{attribute_of, kind_asked, has_kind, value_given, with_default_value}
+use Rattle.vt_model.specs.Creating.{default_value}
+use Rattle.vt_model.specs.Effect.{first_of, effect}
+use Rattle.vt_model.specs.Valid.{IsValid}
+use Rattle.vt_model.specs.declared.metamodel.Feature.{Feature}
+use Rattle.vt_model.specs.declared.model.Object.{Object}
+use Rattle.vt_model.specs.declared.change.Given.{Given}
+use Rattle.vt_model.specs.declared.change.Change.TheVariants.{Set, Unset}
+use Rattle.vt_model.specs.declared.change.Refusal.{Refusal}
+use Rattle.vt_model.specs.declared.change.Refusal.TheVariants.{UnknownObject, Gone, UnknownFeature, WrongKind, WrongValue}
+use Rattle.vt_model.proofs.MemberLemmas.{Contains-find}
+use Rattle.vt_model.proofs.Valid.Found.{HasAttribute-feature}
 use Rattle.vt_graph.specs.Having.{HasAttribute}
 use Rattle.vt_store.specs.declared.naming.Named.{Named}
 use Rattle.vt_store.specs.Inside.Named.{IsNamed}

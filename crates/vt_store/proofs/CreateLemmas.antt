@@ -1,8 +1,8 @@
 -- What creating an object puts into a model.
 use Rattle.std.proofs.Common.{◌++◌, ◌≡◌, ℕ, List, [], ◌∷◌, refl, sym, ap, subst, ◌∙◌, arith}
 use Rattle.std.specs.Prelude.{◌<◌, ◌≤◌, length, position, option_map, Option, None, Some, All, Contains}
-use Rattle.vt_meta.specs.Declarations.{is_name}
-use Rattle.vt_meta.proofs.PositionLemmas.{IsAt-position}
+use Rattle.vt_model.specs.Words.{is_name}
+use Rattle.vt_model.proofs.PositionLemmas.{IsAt-position}
 use Rattle.vt_graph.specs.Held.{Held, Place}
 use Rattle.vt_graph.specs.Room.{KeepsRoom, HasRoom}
 use Rattle.vt_store.specs.Undoing.{HeldEdit, KeepsRoomOf, Fits}
@@ -10,14 +10,14 @@ use Rattle.vt_store.proofs.FitLemmas.{fits_made}
 use Rattle.vt_store.specs.Inside.Kept.{creation}
 use Rattle.std.proofs.lemmas.List.Elements.{All-contains}
 use Rattle.vt_base.specs.declared.numbers.ClassId.{ClassId}
-use Rattle.vt_meta.specs.Metamodel.{Metamodel, class_named}
-use Rattle.vt_meta.specs.Model.{Model}
-use Rattle.vt_meta.specs.Creating.{defaults_from, created}
-use Rattle.vt_meta.specs.Fits.{FitsAttribute}
-use Rattle.vt_meta.specs.Valid.{IsValid}
-use Rattle.vt_meta.specs.declared.model.Object.{Object}
-use Rattle.vt_meta.specs.declared.model.AttributeValue.{AttributeValue}
-use Rattle.vt_meta.proofs.Valid.Defaults.{defaults-object}
+use Rattle.vt_model.specs.Metamodel.{Metamodel, class_named}
+use Rattle.vt_model.specs.Model.{Model}
+use Rattle.vt_model.specs.Creating.{defaults_from, created}
+use Rattle.vt_model.specs.Fits.{FitsAttribute}
+use Rattle.vt_model.specs.Valid.{IsValid}
+use Rattle.vt_model.specs.declared.model.Object.{Object}
+use Rattle.vt_model.specs.declared.model.AttributeValue.{AttributeValue}
+use Rattle.vt_model.proofs.Valid.Defaults.{defaults-object}
 use Rattle.vt_store.specs.Edits.{Edit, same_object, same_gone, same_value, same_link, edit_of}
 use Rattle.vt_store.specs.Inside.Displaced.{no_change}
 use Rattle.vt_store.proofs.NetLemmas.{Contains-one, net-same, net-appended}

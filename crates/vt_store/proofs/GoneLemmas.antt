@@ -3,25 +3,25 @@ use Rattle.std.proofs.Common.{◌≡◌, List, [], ◌∷◌, refl, sym, ap, sub
 use Rattle.std.specs.Prelude.{◌==◌, fold, filter, Contains, IsSome, Option, Some, None, option_map, option_and_then, unwrap_or, Ok}
 use Rattle.std.proofs.lemmas.Bool.{true≢false}
 use Rattle.vt_json.specs.Shape.{◌>>=◌}
-use Rattle.vt_meta.specs.Metamodel.{Metamodel, class_named}
-use Rattle.vt_meta.specs.Model.{Model, object_named, feature_at}
-use Rattle.vt_meta.specs.Creating.{created, new_number, default_value}
-use Rattle.vt_meta.specs.Assigning.{attribute_of, kind_asked, value_given, with_default_value, with_value}
-use Rattle.vt_meta.specs.Linking.{linked, relinked, oriented, unlinked, stands}
-use Rattle.vt_meta.specs.Containing.{is_inside}
-use Rattle.vt_meta.specs.Deleting.{gone_order, with_gone, deleted}
-use Rattle.vt_meta.specs.Effect.{refusal, changed, unless_refused, link_asked, effect}
-use Rattle.vt_meta.specs.declared.model.Object.{Object}
-use Rattle.vt_meta.specs.declared.model.GoneObject.{GoneObject}
-use Rattle.vt_meta.specs.declared.change.Change.{Change}
-use Rattle.vt_meta.specs.declared.change.Change.TheVariants as change
-use Rattle.vt_meta.specs.declared.change.Refusal.{Refusal}
-use Rattle.vt_meta.proofs.MemberLemmas.{Contains-find, find-some, Contains-insert_key_old}
+use Rattle.vt_model.specs.Metamodel.{Metamodel, class_named}
+use Rattle.vt_model.specs.Model.{Model, object_named, feature_at}
+use Rattle.vt_model.specs.Creating.{created, new_number, default_value}
+use Rattle.vt_model.specs.Assigning.{attribute_of, kind_asked, value_given, with_default_value, with_value}
+use Rattle.vt_model.specs.Linking.{linked, relinked, oriented, unlinked, stands}
+use Rattle.vt_model.specs.Containing.{is_inside}
+use Rattle.vt_model.specs.Deleting.{gone_order, with_gone, deleted}
+use Rattle.vt_model.specs.Effect.{refusal, changed, unless_refused, link_asked, effect}
+use Rattle.vt_model.specs.declared.model.Object.{Object}
+use Rattle.vt_model.specs.declared.model.GoneObject.{GoneObject}
+use Rattle.vt_model.specs.declared.change.Change.{Change}
+use Rattle.vt_model.specs.declared.change.Change.TheVariants as change
+use Rattle.vt_model.specs.declared.change.Refusal.{Refusal}
+use Rattle.vt_model.proofs.MemberLemmas.{Contains-find, find-some, Contains-insert_key_old}
 use Rattle.vt_base.specs.declared.numbers.ObjId.{ObjId}
 use Rattle.vt_base.specs.declared.numbers.AttrId.{AttrId}
 use Rattle.vt_base.specs.declared.value.Kind.{Kind}
 use Rattle.vt_base.specs.declared.value.Value.{Value}
-use Rattle.vt_meta.specs.declared.model.Link.{Link}
+use Rattle.vt_model.specs.declared.model.Link.{Link}
 use Rattle.vt_graph.specs.Asked.{gone_at}
 
 -- ---- in the list of deleted objects

@@ -2,18 +2,18 @@
 use Rattle.std.proofs.Common.{◌≡◌, ℕ, List, [], ◌∷◌, ◌++◌, refl, sym, ap, ap₂, subst, ◌∙◌, Bool, true, false, cond}
 use Rattle.std.specs.Prelude.{Contains, Option, Some, None, option_map, unwrap_or, Result, Ok, Err, OnOk, OnErr, IfOk}
 use Rattle.std.specs.Option.{option_map_or}
-use Rattle.vt_meta.specs.Metamodel.{Metamodel}
-use Rattle.vt_meta.specs.Model.{Model}
-use Rattle.vt_meta.specs.Linking.{linked, relinked, unlinked, oriented, stands}
-use Rattle.vt_meta.specs.Containing.{closes_cycle}
-use Rattle.vt_meta.specs.Effect.{first_of, refusal, unless_refused, link_asked, effect}
-use Rattle.vt_meta.specs.Sound.{IsSound}
-use Rattle.vt_meta.specs.Valid.{IsValid}
-use Rattle.vt_meta.specs.declared.model.Link.{Link}
-use Rattle.vt_meta.specs.declared.model.Object.{Object}
-use Rattle.vt_meta.specs.declared.change.Change.TheVariants as change
-use Rattle.vt_meta.specs.declared.change.Refusal.{Refusal}
-use Rattle.vt_meta.specs.declared.change.Refusal.TheVariants.{ContainmentCycle}
+use Rattle.vt_model.specs.Metamodel.{Metamodel}
+use Rattle.vt_model.specs.Model.{Model}
+use Rattle.vt_model.specs.Linking.{linked, relinked, unlinked, oriented, stands}
+use Rattle.vt_model.specs.Containing.{closes_cycle}
+use Rattle.vt_model.specs.Effect.{first_of, refusal, unless_refused, link_asked, effect}
+use Rattle.vt_model.specs.Sound.{IsSound}
+use Rattle.vt_model.specs.Valid.{IsValid}
+use Rattle.vt_model.specs.declared.model.Link.{Link}
+use Rattle.vt_model.specs.declared.model.Object.{Object}
+use Rattle.vt_model.specs.declared.change.Change.TheVariants as change
+use Rattle.vt_model.specs.declared.change.Refusal.{Refusal}
+use Rattle.vt_model.specs.declared.change.Refusal.TheVariants.{ContainmentCycle}
 use Rattle.vt_graph.specs.Held.{Held}
 use Rattle.vt_graph.specs.Room.{HasRoom, KeepsRoom}
 use Rattle.vt_store.specs.Edits.{same_object, edit_of}

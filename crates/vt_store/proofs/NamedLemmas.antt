@@ -4,13 +4,13 @@ use Rattle.std.specs.Prelude.{Contains, find, Option, Some, None, option_map, un
 use Rattle.std.specs.Cmp.Lexicographic.{bytes_decides}
 use Rattle.vt_base.specs.declared.numbers.ObjId.{ObjId}
 use Rattle.vt_base.specs.declared.numbers.ClassId.{ClassId}
-use Rattle.vt_meta.specs.Metamodel.{Metamodel}
-use Rattle.vt_meta.specs.Declarations.{is_name}
-use Rattle.vt_meta.specs.Model.{Model, object_named, gone_named}
-use Rattle.vt_meta.specs.Valid.{IsValid}
-use Rattle.vt_meta.specs.declared.model.Object.{Object}
-use Rattle.vt_meta.specs.declared.model.GoneObject.{GoneObject}
-use Rattle.vt_meta.proofs.MemberLemmas.{Contains-find}
+use Rattle.vt_model.specs.Metamodel.{Metamodel}
+use Rattle.vt_model.specs.Words.{is_name}
+use Rattle.vt_model.specs.Model.{Model, object_named, gone_named}
+use Rattle.vt_model.specs.Valid.{IsValid}
+use Rattle.vt_model.specs.declared.model.Object.{Object}
+use Rattle.vt_model.specs.declared.model.GoneObject.{GoneObject}
+use Rattle.vt_model.proofs.MemberLemmas.{Contains-find}
 use Rattle.vt_graph.specs.Asked.{seen_of, seen_live, seen_gone, class_at}
 use Rattle.vt_graph.specs.declared.seen.Seen.{Seen}
 use Rattle.vt_graph.specs.declared.seen.Seen.TheVariants as seen

@@ -5,16 +5,16 @@ use Rattle.std.proofs.lemmas.List.Elements.{All-weaker}
 use Rattle.vt_graph.specs.Held.{Held}
 use Rattle.vt_store.specs.Edits.{undone}
 use Rattle.vt_store.specs.Undoing.{HeldEdit, Fits}
-use Rattle.vt_meta.specs.Metamodel.{Metamodel}
-use Rattle.vt_meta.specs.Model.{Model, empty_model}
-use Rattle.vt_meta.specs.Effect.{effect}
-use Rattle.vt_meta.specs.Sound.{IsSound}
-use Rattle.vt_meta.specs.Valid.{IsValid}
-use Rattle.vt_meta.specs.declared.change.Change.{Change}
-use Rattle.vt_meta.proofs.Valid.{IsValid-effect}
-use Rattle.vt_meta.proofs.Valid.Empty.{IsValid-empty_model}
-use Rattle.vt_meta.proofs.Valid.FewerLinks.{LinkSide-stays}
-use Rattle.vt_meta.proofs.Valid.Sides.{IsValid-sides, LinkSide-valid}
+use Rattle.vt_model.specs.Metamodel.{Metamodel}
+use Rattle.vt_model.specs.Model.{Model, empty_model}
+use Rattle.vt_model.specs.Effect.{effect}
+use Rattle.vt_model.specs.Sound.{IsSound}
+use Rattle.vt_model.specs.Valid.{IsValid}
+use Rattle.vt_model.specs.declared.change.Change.{Change}
+use Rattle.vt_model.proofs.Valid.{IsValid-effect}
+use Rattle.vt_model.proofs.Valid.Empty.{IsValid-empty_model}
+use Rattle.vt_model.proofs.Valid.FewerLinks.{LinkSide-stays}
+use Rattle.vt_model.proofs.Valid.Sides.{IsValid-sides, LinkSide-valid}
 
 -- the empty model is valid
 pub valid_empty : (meta : Metamodel) → IsValid meta empty_model

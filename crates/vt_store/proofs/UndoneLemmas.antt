@@ -2,12 +2,12 @@
 use Rattle.std.proofs.Common.{◌≡◌}
 use Rattle.std.specs.Cmp.{IsTotalOrder}
 use Rattle.std.proofs.lemmas.Cmp.{then_total, on_total, nat_cmp_total}
-use Rattle.vt_meta.specs.Metamodel.{Metamodel}
-use Rattle.vt_meta.specs.Model.{Model}
-use Rattle.vt_meta.specs.Assigning.{value_order}
-use Rattle.vt_meta.specs.Linking.{link_order}
-use Rattle.vt_meta.specs.Deleting.{gone_order}
-use Rattle.vt_meta.specs.Valid.{IsValid, object_order}
+use Rattle.vt_model.specs.Metamodel.{Metamodel}
+use Rattle.vt_model.specs.Model.{Model}
+use Rattle.vt_model.specs.Assigning.{value_order}
+use Rattle.vt_model.specs.Linking.{link_order}
+use Rattle.vt_model.specs.Deleting.{gone_order}
+use Rattle.vt_model.specs.Valid.{IsValid, object_order}
 use Rattle.vt_store.specs.Edits.{same_object, same_gone, same_value, same_link, edit_of, undone}
 use Rattle.vt_store.proofs.EditLemmas.{undone_list-net}
 use Rattle.vt_store.proofs.SameLemmas.{Decides-same_object, Decides-same_gone, Decides-same_value, Decides-same_link}

@@ -5,16 +5,16 @@ use Rattle.std.specs.BTreeSet.{insert_key}
 use Rattle.std.specs.declared.cmp.Ordering.{Ordering}
 use Rattle.std.specs.Ordering.{eq_by_cmp}
 use Rattle.vt_base.specs.Order.{value_cmp}
-use Rattle.vt_meta.specs.Declarations.{is_name}
-use Rattle.vt_meta.specs.Model.{Model}
-use Rattle.vt_meta.specs.Assigning.{value_order}
-use Rattle.vt_meta.specs.Linking.{link_order, is_link}
-use Rattle.vt_meta.specs.Deleting.{gone_order}
-use Rattle.vt_meta.specs.Valid.{object_order}
-use Rattle.vt_meta.specs.declared.model.Object.{Object}
-use Rattle.vt_meta.specs.declared.model.GoneObject.{GoneObject}
-use Rattle.vt_meta.specs.declared.model.AttributeValue.{AttributeValue}
-use Rattle.vt_meta.specs.declared.model.Link.{Link}
+use Rattle.vt_model.specs.Words.{is_name}
+use Rattle.vt_model.specs.Model.{Model}
+use Rattle.vt_model.specs.Assigning.{value_order}
+use Rattle.vt_model.specs.Linking.{link_order, is_link}
+use Rattle.vt_model.specs.Deleting.{gone_order}
+use Rattle.vt_model.specs.Valid.{object_order}
+use Rattle.vt_model.specs.declared.model.Object.{Object}
+use Rattle.vt_model.specs.declared.model.GoneObject.{GoneObject}
+use Rattle.vt_model.specs.declared.model.AttributeValue.{AttributeValue}
+use Rattle.vt_model.specs.declared.model.Link.{Link}
 
 -- what came into a list, and what went out of it
 pub record ListChange (T : Type 0) : Type 0 where

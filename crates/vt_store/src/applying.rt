@@ -1,7 +1,7 @@
 // Any change.
 ghost use Rattle.std.specs.Prelude.{◌≡◌, ◌++◌, IfOk, OnOk, OnErr, Ok, Err};
-ghost use Rattle.vt_meta.specs.Effect.{effect};
-ghost use Rattle.vt_meta.specs.declared.change.Refusal.{Refusal};
+ghost use Rattle.vt_model.specs.Effect.{effect};
+ghost use Rattle.vt_model.specs.declared.change.Refusal.{Refusal};
 ghost use Rattle.vt_store.specs.Edits.{edit_of};
 ghost use Rattle.vt_store.specs.Undoing.{KeepsRoomOf, Fits};
 ghost use Rattle.vt_store.specs.declared.fault.StoreFault.TheVariants as fault;
@@ -10,7 +10,7 @@ use crate::Store;
 use crate::edit::Edit;
 use crate::fault::StoreFault;
 use std::alloc::Global;
-use vt_meta::Change;
+use vt_model::Change;
 
 impl Store {
     /// Makes a change, of whichever kind.

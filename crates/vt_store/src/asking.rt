@@ -1,19 +1,19 @@
 // The links that changes ask for.
 ghost use Rattle.std.specs.Prelude.{◌≡◌, [], ◌∷◌, IfOk, IfErr, Some, None, is_none};
-ghost use Rattle.vt_meta.specs.Metamodel.{feature};
-ghost use Rattle.vt_meta.specs.Linking.{reference_of, is_target};
-ghost use Rattle.vt_meta.specs.Effect.{first_of, link_asked};
-ghost use Rattle.vt_meta.specs.Fits.{FitsReference};
-ghost use Rattle.vt_meta.specs.Valid.{IsValid};
-ghost use Rattle.vt_meta.specs.declared.change.Refusal.TheVariants as refusal;
-ghost use Rattle.vt_meta.specs.declared.model.Object.{Object};
+ghost use Rattle.vt_model.specs.Metamodel.{feature};
+ghost use Rattle.vt_model.specs.Linking.{reference_of, is_target};
+ghost use Rattle.vt_model.specs.Effect.{first_of, link_asked};
+ghost use Rattle.vt_model.specs.Fits.{FitsReference};
+ghost use Rattle.vt_model.specs.Valid.{IsValid};
+ghost use Rattle.vt_model.specs.declared.change.Refusal.TheVariants as refusal;
+ghost use Rattle.vt_model.specs.declared.model.Object.{Object};
 ghost use Rattle.vt_store.specs.Inside.Asking.{link_tests, move_tests};
 
 use crate::naming::{Named, both_live};
 use crate::references::is_containment;
 use vt_base::{ClassId, RefId, Text};
 use vt_graph::Graph;
-use vt_meta::{Feature, Link, Metamodel, Refusal};
+use vt_model::{Feature, Link, Metamodel, Refusal};
 
 fn reference_of(feature: Feature) -> Option<RefId>
     ensures { result ≡ reference_of (Some feature) }

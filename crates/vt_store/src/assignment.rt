@@ -1,10 +1,10 @@
 // What Set and Unset do.
 ghost use Rattle.std.specs.Prelude.{◌≡◌, [], IfOk, IfErr, OnOk, OnErr, Ok, Err};
 ghost use Rattle.std.specs.Option.{option_copied};
-ghost use Rattle.vt_meta.specs.Assigning.{with_default_value};
-ghost use Rattle.vt_meta.specs.Effect.{effect};
-ghost use Rattle.vt_meta.specs.Valid.{IsValid};
-ghost use Rattle.vt_meta.specs.declared.change.Change.TheVariants as change;
+ghost use Rattle.vt_model.specs.Assigning.{with_default_value};
+ghost use Rattle.vt_model.specs.Effect.{effect};
+ghost use Rattle.vt_model.specs.Valid.{IsValid};
+ghost use Rattle.vt_model.specs.declared.change.Change.TheVariants as change;
 ghost use Rattle.vt_graph.specs.Asked.{value_at};
 ghost use Rattle.vt_graph.specs.Having.{HasAttribute};
 ghost use Rattle.vt_store.specs.Inside.Assigned.{held_value, value_change, values_edit};
@@ -15,7 +15,7 @@ use crate::valuing::{attribute_asked, default_value, same_given, value_asked};
 use std::alloc::Global;
 use vt_base::{AttrId, List, NoMemory, ObjId, Plain, Text, Value};
 use vt_graph::Graph;
-use vt_meta::{AttributeValue, Given, Refusal};
+use vt_model::{AttributeValue, Given, Refusal};
 
 /// An attribute of a live object, and the value that it gets, if any.
 #[derive(Debug, Drop)]

@@ -1,10 +1,10 @@
 // What Create does.
 ghost use Rattle.std.specs.Prelude.{◌≡◌, ◌<◌, ◌≤◌, [], false, length, IfOk, OnOk, OnErr, Ok, Err};
-ghost use Rattle.vt_meta.specs.Creating.{is_abstract, is_taken, is_reserved, begins_with_underscore, defaults_from, created};
-ghost use Rattle.vt_meta.specs.Effect.{effect};
-ghost use Rattle.vt_meta.specs.Valid.{IsValid};
-ghost use Rattle.vt_meta.specs.declared.change.Change.TheVariants as change;
-ghost use Rattle.vt_meta.specs.declared.change.Refusal.{Refusal};
+ghost use Rattle.vt_model.specs.Creating.{is_abstract, is_taken, is_reserved, begins_with_underscore, defaults_from, created};
+ghost use Rattle.vt_model.specs.Effect.{effect};
+ghost use Rattle.vt_model.specs.Valid.{IsValid};
+ghost use Rattle.vt_model.specs.declared.change.Change.TheVariants as change;
+ghost use Rattle.vt_model.specs.declared.change.Refusal.{Refusal};
 ghost use Rattle.vt_graph.specs.Room.{KeepsRoom};
 ghost use Rattle.vt_store.specs.Inside.Kept.{creation};
 ghost use Rattle.vt_store.specs.declared.fault.StoreFault.TheVariants as fault;
@@ -15,7 +15,7 @@ use crate::valuing::default_value;
 use std::alloc::Global;
 use vt_base::{AttrId, ClassId, List, NoMemory, ObjId, Text};
 use vt_graph::{Graph, Seen};
-use vt_meta::{AttrInfo, AttributeValue, Metamodel, Object, Refusal};
+use vt_model::{AttrInfo, AttributeValue, Metamodel, Object, Refusal};
 
 /// A number that no object can have, nor any above it.
 const OBJECT_LIMIT: u32 = 1_048_576;

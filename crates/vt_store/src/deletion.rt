@@ -2,9 +2,9 @@
 // them.
 ghost use Rattle.std.specs.Prelude.{◌≡◌, ◌≤◌, ◌+◌, ◌++◌, ◌∷◌, [], All, IfOk, IsSome, OnOk, OnErr, filter, length, map};
 ghost use Rattle.std.specs.List.{filter_map, flat_map};
-ghost use Rattle.vt_meta.specs.Containing.{is_inside};
-ghost use Rattle.vt_meta.specs.Deleting.{deleted};
-ghost use Rattle.vt_meta.specs.Valid.{IsValid};
+ghost use Rattle.vt_model.specs.Containing.{is_inside};
+ghost use Rattle.vt_model.specs.Deleting.{deleted};
+ghost use Rattle.vt_model.specs.Valid.{IsValid};
 ghost use Rattle.vt_graph.specs.Asked.{live_at};
 ghost use Rattle.vt_graph.specs.Having.{HasAttribute};
 ghost use Rattle.vt_graph.specs.Room.{KeepsRoom};
@@ -21,7 +21,7 @@ use crate::relinking::drop_back;
 use std::alloc::Global;
 use vt_base::{List, NoMemory, ObjId, Plain, RefId, Roomy};
 use vt_graph::{Buried, Graph};
-use vt_meta::{AttributeValue, Link, Metamodel};
+use vt_model::{AttributeValue, Link, Metamodel};
 use vt_slots::{EndList, Held, Side};
 
 // ---- the objects inside

@@ -1,10 +1,10 @@
 // What a new link displaces, and what contains an object: found at the ends of their links.
 ghost use Rattle.std.specs.Prelude.{◌≡◌, ◌==◌, ◌++◌, IfOk, OnOk, filter};
 ghost use Rattle.std.specs.List.{flat_map, list_any};
-ghost use Rattle.vt_meta.specs.Linking.{is_dropped, stands};
-ghost use Rattle.vt_meta.specs.Containing.{holder, is_inside};
-ghost use Rattle.vt_meta.specs.Sound.{IsSound};
-ghost use Rattle.vt_meta.specs.Valid.{IsValid};
+ghost use Rattle.vt_model.specs.Linking.{is_dropped, stands};
+ghost use Rattle.vt_model.specs.Containing.{holder, is_inside};
+ghost use Rattle.vt_model.specs.Sound.{IsSound};
+ghost use Rattle.vt_model.specs.Valid.{IsValid};
 ghost use Rattle.vt_slots.specs.Ends.{EndList, ObjectsRise};
 ghost use Rattle.vt_store.specs.Inside.Displaced.{IsArranged, with_opposite, to_targets, from_sources, held_from, candidates, holder_in};
 
@@ -12,7 +12,7 @@ use crate::references::{has_single_opposite, is_containment, is_many, link_back}
 use std::alloc::Global;
 use vt_base::{NoMemory, ObjId, RefId};
 use vt_graph::Graph;
-use vt_meta::{Link, Metamodel};
+use vt_model::{Link, Metamodel};
 use vt_slots::{EndList, Side};
 
 // ---- what is displaced

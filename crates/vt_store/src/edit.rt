@@ -8,7 +8,7 @@ use std::alloc::Global;
 use std::marker::Model;
 use vt_base::List;
 use vt_graph::Buried;
-use vt_meta::{AttributeValue, Link, Metamodel, Object};
+use vt_model::{AttributeValue, Link, Metamodel, Object};
 
 /// What one change put into a model and took out of it. A store takes it back by
 /// [`Store::revert`](crate::Store::revert).

@@ -2,7 +2,7 @@
 ghost use Rattle.std.specs.Prelude.{◌≡◌};
 
 use vt_base::NoMemory;
-use vt_meta::Refusal;
+use vt_model::Refusal;
 
 /// Why a change wasn't made. The store is as it was before.
 #[derive(Clone, Copy, Debug, PartialEq, Eq)]

@@ -1,9 +1,9 @@
 // What holds of what changes put in and take out.
 ghost use Rattle.std.specs.Prelude.{◌≡◌};
 ghost use Rattle.std.specs.List.Sorted.{IsStrictlySortedBy};
-ghost use Rattle.vt_meta.specs.Metamodel.{Metamodel};
-ghost use Rattle.vt_meta.specs.Model.{Model};
-ghost use Rattle.vt_meta.specs.Valid.{IsValid};
+ghost use Rattle.vt_model.specs.Metamodel.{Metamodel};
+ghost use Rattle.vt_model.specs.Model.{Model};
+ghost use Rattle.vt_model.specs.Valid.{IsValid};
 ghost use Rattle.vt_graph.specs.Held.{Held};
 ghost use Rattle.vt_store.specs.Edits.{edit_of, TellsApart, undone};
 ghost use Rattle.vt_store.specs.Undoing.{HeldEdit, KeepsRoomOf, Fits};

@@ -1,7 +1,7 @@
 //! A typed model that takes single changes, refuses each that would break it, and can take each
 //! change back.
 //!
-//! It stands on `vt_graph`, and on what `vt_meta` says of changes. Read `specs/Edits.antt`, then
+//! It stands on `vt_graph`, and on what `vt_model` says of changes. Read `specs/Edits.antt`, then
 //! `specs/Undoing.antt`.
 #![tactic(auto)]
 
@@ -34,7 +34,7 @@ pub use edit::Edit;
 pub use fault::StoreFault;
 pub use store::Store;
 pub use vt_graph::Seen;
-pub use vt_meta::{Change, Given, Refusal};
+pub use vt_model::{Change, Given, Refusal};
 pub use vt_slots::Held;
 // What holds of every edit.
 pub use laws::{edit_tells_apart, fits_with_more_room, undoing_gives_back};

@@ -1,12 +1,12 @@
 // The changes of links: Link, Unlink and Move.
 ghost use Rattle.std.specs.Prelude.{◌≡◌, ◌++◌, IfOk, OnOk, OnErr, Ok, Err};
-ghost use Rattle.vt_meta.specs.Model.{Model};
-ghost use Rattle.vt_meta.specs.Linking.{unlinked};
-ghost use Rattle.vt_meta.specs.Effect.{effect};
-ghost use Rattle.vt_meta.specs.Fits.{FitsReference};
-ghost use Rattle.vt_meta.specs.Valid.{IsValid};
-ghost use Rattle.vt_meta.specs.declared.change.Change.TheVariants as change;
-ghost use Rattle.vt_meta.specs.declared.change.Refusal.{Refusal};
+ghost use Rattle.vt_model.specs.Model.{Model};
+ghost use Rattle.vt_model.specs.Linking.{unlinked};
+ghost use Rattle.vt_model.specs.Effect.{effect};
+ghost use Rattle.vt_model.specs.Fits.{FitsReference};
+ghost use Rattle.vt_model.specs.Valid.{IsValid};
+ghost use Rattle.vt_model.specs.declared.change.Change.TheVariants as change;
+ghost use Rattle.vt_model.specs.declared.change.Refusal.{Refusal};
 ghost use Rattle.vt_store.specs.Edits.{edit_of};
 ghost use Rattle.vt_store.specs.Undoing.{KeepsRoomOf, Fits};
 ghost use Rattle.vt_store.specs.Inside.Asking.{link_effect};
@@ -19,7 +19,7 @@ use crate::fault::StoreFault;
 use crate::relinking::{make_link, unmake_link};
 use std::alloc::Global;
 use vt_base::{NoMemory, Text};
-use vt_meta::Link;
+use vt_model::Link;
 
 impl Store {
     // Makes a link that is asked for, unless it would close a cycle.

@@ -1,16 +1,16 @@
 // The live objects that a change names.
 ghost use Rattle.std.specs.Prelude.{◌≡◌, ◌||◌, [], ◌∷◌, IfOk, IfErr, IsOk, Some};
-ghost use Rattle.vt_meta.specs.Model.{object_named, never_existed, was_deleted};
-ghost use Rattle.vt_meta.specs.Effect.{first_of};
-ghost use Rattle.vt_meta.specs.Valid.{IsValid};
-ghost use Rattle.vt_meta.specs.declared.change.Refusal.TheVariants as refusal;
+ghost use Rattle.vt_model.specs.Model.{object_named, never_existed, was_deleted};
+ghost use Rattle.vt_model.specs.Effect.{first_of};
+ghost use Rattle.vt_model.specs.Valid.{IsValid};
+ghost use Rattle.vt_model.specs.declared.change.Refusal.TheVariants as refusal;
 ghost use Rattle.vt_store.specs.Inside.Named.{IsNamed};
 ghost use Rattle.vt_graph.specs.Asked.{seen_of};
 ghost use Rattle.vt_graph.specs.declared.seen.Seen.TheVariants as seen;
 
 use vt_base::{ClassId, ObjId, Text};
 use vt_graph::{Graph, Seen};
-use vt_meta::Refusal;
+use vt_model::Refusal;
 
 /// A live object that a change names.
 #[derive(Clone, Copy, Debug)]

@@ -1,9 +1,9 @@
 // What a metamodel says of references and of links.
 ghost use Rattle.std.specs.Prelude.{◌≡◌, Some};
-ghost use Rattle.vt_meta.specs.Linking.{is_many, is_containment, opposite_of, has_single_opposite, link_back, oriented};
+ghost use Rattle.vt_model.specs.Linking.{is_many, is_containment, opposite_of, has_single_opposite, link_back, oriented};
 
 use vt_base::RefId;
-use vt_meta::{Link, Metamodel};
+use vt_model::{Link, Metamodel};
 
 pub(crate) fn is_many(meta: &Metamodel, r: RefId) -> bool
     ensures { result ≡ is_many meta.now r }

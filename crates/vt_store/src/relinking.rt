@@ -1,14 +1,14 @@
 // What Link, Unlink and Move do.
 ghost use Rattle.std.specs.Prelude.{◌≡◌, [], fold, reverse, IfOk, OnOk, OnErr, All, Some, Ok, Err, filter};
-ghost use Rattle.vt_meta.specs.Linking.{is_dropped, with_link, relinked, unlinked};
-ghost use Rattle.vt_meta.specs.Containing.{is_circular};
-ghost use Rattle.vt_meta.specs.declared.change.Refusal.{Refusal};
+ghost use Rattle.vt_model.specs.Linking.{is_dropped, with_link, relinked, unlinked};
+ghost use Rattle.vt_model.specs.Containing.{is_circular};
+ghost use Rattle.vt_model.specs.declared.change.Refusal.{Refusal};
 ghost use Rattle.vt_store.specs.Edits.{edit_of};
 ghost use Rattle.vt_store.specs.Inside.Asking.{link_effect};
 ghost use Rattle.vt_store.specs.declared.fault.StoreFault.TheVariants as fault;
-ghost use Rattle.vt_meta.specs.Fits.{FitsReference};
-ghost use Rattle.vt_meta.specs.Sound.{IsSound};
-ghost use Rattle.vt_meta.specs.Valid.{IsValid};
+ghost use Rattle.vt_model.specs.Fits.{FitsReference};
+ghost use Rattle.vt_model.specs.Sound.{IsSound};
+ghost use Rattle.vt_model.specs.Valid.{IsValid};
 ghost use Rattle.vt_graph.specs.Room.{KeepsRoom};
 ghost use Rattle.vt_store.specs.Inside.Displaced.{NoneStands, links_edit, without_link, EndsLive};
 
@@ -19,7 +19,7 @@ use crate::references::{is_containment, link_back, oriented};
 use std::alloc::Global;
 use vt_base::{List, NoMemory};
 use vt_graph::Graph;
-use vt_meta::{Link, Metamodel, Refusal};
+use vt_model::{Link, Metamodel, Refusal};
 
 // A link and its opposite, in order.
 #[tactic(auto, using(crate::proofs::Linking::Both::arranged_both))]

@@ -1,10 +1,10 @@
 // The change of whole objects: Delete.
 ghost use Rattle.std.specs.Prelude.{◌≡◌, ◌++◌, IfOk, IsSome, OnOk, OnErr, Ok, Err};
-ghost use Rattle.vt_meta.specs.Deleting.{deleted};
-ghost use Rattle.vt_meta.specs.Effect.{effect};
-ghost use Rattle.vt_meta.specs.Valid.{IsValid};
-ghost use Rattle.vt_meta.specs.declared.change.Change.TheVariants as change;
-ghost use Rattle.vt_meta.specs.declared.change.Refusal.{Refusal};
+ghost use Rattle.vt_model.specs.Deleting.{deleted};
+ghost use Rattle.vt_model.specs.Effect.{effect};
+ghost use Rattle.vt_model.specs.Valid.{IsValid};
+ghost use Rattle.vt_model.specs.declared.change.Change.TheVariants as change;
+ghost use Rattle.vt_model.specs.declared.change.Refusal.{Refusal};
 ghost use Rattle.vt_graph.specs.Asked.{live_at};
 ghost use Rattle.vt_store.specs.Edits.{edit_of};
 ghost use Rattle.vt_store.specs.Undoing.{KeepsRoomOf, Fits};

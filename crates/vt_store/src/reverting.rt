@@ -3,7 +3,7 @@ ghost use Rattle.std.specs.Prelude.{◌≡◌, ◌<◌, ◌≤◌, ◌++◌, map
 ghost use Rattle.vt_graph.specs.Having.{HasAttribute};
 ghost use Rattle.vt_graph.specs.Room.{KeepsRoom, HasRoom, HasRoomFor};
 ghost use Rattle.vt_slots.specs.declared.slot.Side.TheVariants.{Outgoing, Incoming};
-ghost use Rattle.vt_meta.specs.Valid.{IsValid};
+ghost use Rattle.vt_model.specs.Valid.{IsValid};
 ghost use Rattle.vt_store.specs.Edits.{undone};
 ghost use Rattle.vt_store.specs.Undoing.{KeepsRoomOf, Fits};
 ghost use Rattle.vt_store.specs.Inside.Assigned.{without_values, with_values};
@@ -14,7 +14,7 @@ use crate::edit::Edit;
 use crate::relinking::drop_back;
 use vt_base::{List, Value};
 use vt_graph::{Buried, Graph};
-use vt_meta::{AttributeValue, Link, Object};
+use vt_model::{AttributeValue, Link, Object};
 
 // ---- values
 

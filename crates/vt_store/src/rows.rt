@@ -7,7 +7,7 @@ use std::sync::ledger::Ledger;
 use vt_base::{AttrId, Base, ClassId, Names, NoMemory, ObjId, RefId, Rows, Steps, Text};
 
 impl Base for Store {
-    ghost use Rattle.vt_meta.specs.Base.{base_of};
+    ghost use Rattle.vt_model.specs.Base.{base_of};
 
     ghost rows = { λ s. base_of s.meta s.model };
 
@@ -40,7 +40,7 @@ impl Base for Store {
 }
 
 impl Names for Store {
-    ghost use Rattle.vt_meta.specs.Metamodel.{enum_names};
+    ghost use Rattle.vt_model.specs.Metamodel.{enum_names};
     ghost use Rattle.vt_graph.specs.Asked.{all_names};
 
     ghost enums = { λ s. enum_names s.meta };

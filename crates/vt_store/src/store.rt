@@ -1,14 +1,14 @@
 // A typed model that takes changes, and takes them back.
 ghost use Rattle.std.specs.Prelude.{◌≡◌, ◌<◌, ◌≤◌, ◌++◌, [], false, length, IfOk, OnOk, OnErr, Ok, Err};
 ghost use Rattle.std.specs.Option.{option_copied};
-ghost use Rattle.vt_meta.specs.Model.{empty_model};
-ghost use Rattle.vt_meta.specs.Creating.{is_taken, created};
-ghost use Rattle.vt_meta.specs.Assigning.{with_default_value};
-ghost use Rattle.vt_meta.specs.Effect.{effect};
-ghost use Rattle.vt_meta.specs.Sound.{IsSound};
-ghost use Rattle.vt_meta.specs.Valid.{IsValid};
-ghost use Rattle.vt_meta.specs.declared.change.Change.TheVariants as change;
-ghost use Rattle.vt_meta.specs.declared.change.Refusal.{Refusal};
+ghost use Rattle.vt_model.specs.Model.{empty_model};
+ghost use Rattle.vt_model.specs.Creating.{is_taken, created};
+ghost use Rattle.vt_model.specs.Assigning.{with_default_value};
+ghost use Rattle.vt_model.specs.Effect.{effect};
+ghost use Rattle.vt_model.specs.Sound.{IsSound};
+ghost use Rattle.vt_model.specs.Valid.{IsValid};
+ghost use Rattle.vt_model.specs.declared.change.Change.TheVariants as change;
+ghost use Rattle.vt_model.specs.declared.change.Refusal.{Refusal};
 ghost use Rattle.vt_base.specs.declared.numbers.AttrId.{AttrId};
 ghost use Rattle.vt_slots.specs.Values.{AttributesRise, value_in};
 ghost use Rattle.vt_slots.specs.declared.slot.Side.TheVariants.{Outgoing, Incoming};
@@ -27,7 +27,7 @@ use std::alloc::Global;
 use std::marker::Model;
 use vt_base::{AttrId, ClassId, NoMemory, ObjId, RefId, Text, Value};
 use vt_graph::{Graph, Seen};
-use vt_meta::{Given, Metamodel};
+use vt_model::{Given, Metamodel};
 use vt_slots::{Held, Side};
 
 /// A typed model. It takes one change at a time, refuses each that would break it, and takes back
@@ -38,8 +38,8 @@ pub struct Store {
 }
 
 impl Model for Store {
-    ghost use Rattle.vt_meta.specs.Sound.{IsSound};
-    ghost use Rattle.vt_meta.specs.Valid.{IsValid};
+    ghost use Rattle.vt_model.specs.Sound.{IsSound};
+    ghost use Rattle.vt_model.specs.Valid.{IsValid};
     ghost use Rattle.vt_graph.specs.Held.{Held};
 
     ghost Value = { Held };

@@ -1,15 +1,15 @@
 // The values that changes give to attributes.
 ghost use Rattle.std.specs.Prelude.{◌≡◌, ◌<◌, [], ◌∷◌, IfOk, IfErr, IfSome, Some, is_none, not, option_map, position, true};
 ghost use Rattle.std.specs.Option.{option_copied};
-ghost use Rattle.vt_meta.specs.Declarations.{is_name};
-ghost use Rattle.vt_meta.specs.Assigning.{attribute_of, kind_asked, is_literal, literal_named, has_kind, value_given};
-ghost use Rattle.vt_meta.specs.Creating.{default_value};
-ghost use Rattle.vt_meta.specs.Effect.{first_of};
-ghost use Rattle.vt_meta.specs.declared.change.Refusal.TheVariants.{WrongKind, WrongValue};
+ghost use Rattle.vt_model.specs.Words.{is_name};
+ghost use Rattle.vt_model.specs.Assigning.{attribute_of, kind_asked, is_literal, literal_named, has_kind, value_given};
+ghost use Rattle.vt_model.specs.Creating.{default_value};
+ghost use Rattle.vt_model.specs.Effect.{first_of};
+ghost use Rattle.vt_model.specs.declared.change.Refusal.TheVariants.{WrongKind, WrongValue};
 ghost use Rattle.vt_store.specs.Inside.Assigned.{same_given};
 
 use vt_base::{AttrId, Kind, Text, Value};
-use vt_meta::{Feature, Given, Metamodel, Refusal};
+use vt_model::{Feature, Given, Metamodel, Refusal};
 
 fn is_literal(meta: &Metamodel, e: u16, l: u16) -> bool
     ensures { result ≡ is_literal meta.now e l }

@@ -9,7 +9,7 @@ use Rattle.vt_text.specs.Spelling as token
 use Rattle.vt_text.specs.Spelling.{IsBadAt}
 use Rattle.vt_text.specs.Lexemes.{lexemes_of}
 use Rattle.vt_text.specs.declared.token.Token.{Token}
-use Rattle.vt_meta.specs.Metamodel.{Metamodel}
+use Rattle.vt_model.specs.Metamodel.{Metamodel}
 use Rattle.vt_query.specs.declared.program.Program.{Program}
 use Rattle.vt_vql.specs.Rules.{file}
 use Rattle.vt_vql.specs.Resolving.{narrow_program}

@@ -6,10 +6,10 @@ use Rattle.vt_base.specs.declared.numbers.ClassId.{ClassId}
 use Rattle.vt_base.specs.declared.value.Kind.{Kind}
 use Rattle.vt_base.specs.declared.value.Kind.TheVariants as kind
 use Rattle.vt_json.specs.Shape.{◌>>=◌}
-use Rattle.vt_meta.specs.Metamodel.{Metamodel, class_named, feature}
-use Rattle.vt_meta.specs.Declarations.{is_distinct}
-use Rattle.vt_meta.specs.declared.metamodel.Feature.{Feature}
-use Rattle.vt_meta.specs.declared.metamodel.Feature.TheVariants as a_feature
+use Rattle.vt_model.specs.Metamodel.{Metamodel, class_named, feature}
+use Rattle.vt_model.specs.Words.{is_distinct}
+use Rattle.vt_model.specs.declared.metamodel.Feature.{Feature}
+use Rattle.vt_model.specs.declared.metamodel.Feature.TheVariants as a_feature
 use Rattle.vt_query.specs.declared.program.Program.{Program}
 use Rattle.vt_query.specs.declared.program.Pattern.{Pattern}
 use Rattle.vt_query.specs.declared.program.Body.{Body}

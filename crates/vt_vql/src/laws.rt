@@ -1,7 +1,7 @@
 // What holds of every file.
 ghost use Rattle.std.specs.Prelude.{◌≡◌, ◌≢◌, List, ℕ};
-ghost use Rattle.vt_meta.specs.Base.{counts_of};
-ghost use Rattle.vt_meta.specs.Metamodel.{Metamodel};
+ghost use Rattle.vt_model.specs.Base.{counts_of};
+ghost use Rattle.vt_model.specs.Metamodel.{Metamodel};
 ghost use Rattle.vt_query.specs.Narrow.{IsNarrow};
 ghost use Rattle.vt_query.specs.declared.program.Program.{Program};
 ghost use Rattle.vt_vql.specs.Queries.{Accepts, IsFaultOf};

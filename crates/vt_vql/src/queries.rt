@@ -2,7 +2,7 @@
 ghost use Rattle.std.specs.Prelude.{◌≡◌, ◌≢◌, ◌^◌, ◌<◌, ℕ, IfOk, IfErr, length, Ok, Err, Some, None};
 ghost use Rattle.vt_grammar.specs.Grammar.{Spells};
 ghost use Rattle.vt_grammar.specs.declared.stop.Stop.TheVariants.{Fault, NoMemory as WantOfMemory};
-ghost use Rattle.vt_meta.specs.Base.{counts_of};
+ghost use Rattle.vt_model.specs.Base.{counts_of};
 ghost use Rattle.vt_query.specs.WellFormed.{IsWellFormed};
 ghost use Rattle.vt_query.specs.Narrow.{IsNarrow};
 ghost use Rattle.vt_vql.specs.Rules.{file as grammar};

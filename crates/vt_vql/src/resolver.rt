@@ -1,6 +1,6 @@
 // What patterns make over a metamodel: names as numbers, and a program of them.
 ghost use Rattle.std.specs.Prelude.{◌≡◌, ◌+◌, ◌*◌, ◌^◌, ◌≤◌, ◌<◌, ◌++◌, [], ◌∷◌, IfOk, OnOk, Some, None, length, map, drop, option_map};
-ghost use Rattle.vt_meta.specs.Metamodel.{class_named, feature};
+ghost use Rattle.vt_model.specs.Metamodel.{class_named, feature};
 ghost use Rattle.vt_query.specs.declared.program.Term.TheVariants.{Var};
 ghost use Rattle.vt_vql.specs.Scope.{with_constraint, with_constraints};
 ghost use Rattle.vt_vql.specs.Resolving.{all_of, type_of, param_of, declared, declared_from, with_feature, constraint_of, constraints_from, scope_of, pattern_of};

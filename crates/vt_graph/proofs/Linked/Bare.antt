@@ -6,10 +6,10 @@ use Rattle.std.proofs.lemmas.List.Elements.{All-contains, All-nil}
 use Rattle.vt_base.specs.declared.numbers.ObjId.{ObjId}
 use Rattle.vt_base.specs.declared.numbers.ClassId.{ClassId}
 use Rattle.vt_base.specs.declared.numbers.RefId.{RefId}
-use Rattle.vt_meta.specs.Metamodel.{Metamodel, isa}
-use Rattle.vt_meta.specs.Declarations.{is_distinct}
-use Rattle.vt_meta.specs.declared.model.Link.{Link}
-use Rattle.vt_meta.proofs.MemberLemmas.{Contains-map, All-from_contains}
+use Rattle.vt_model.specs.Metamodel.{Metamodel, isa}
+use Rattle.vt_model.specs.Words.{is_distinct}
+use Rattle.vt_model.specs.declared.model.Link.{Link}
+use Rattle.vt_model.proofs.MemberLemmas.{Contains-map, All-from_contains}
 use Rattle.vt_slots.specs.Ends.{ObjectsRise, reference_order, capacity_of}
 use Rattle.vt_slots.specs.Slots.{NumbersRise, NamesDiffer, slot_at, body_at, ends_on, ends_at, bare, bare_body}
 use Rattle.vt_slots.specs.declared.slot.Side.{Side}

@@ -6,10 +6,10 @@ use Rattle.std.proofs.lemmas.Bool.{cases_eq, and_parts, and_from, false_from_ne_
 use Rattle.std.proofs.lemmas.List.Kept.{IsStrictlySortedBy-filter}
 use Rattle.vt_base.specs.declared.numbers.ObjId.{ObjId}
 use Rattle.vt_base.specs.declared.numbers.RefId.{RefId}
-use Rattle.vt_meta.specs.Linking.{link_order, is_link}
-use Rattle.vt_meta.specs.declared.model.Link.{Link}
-use Rattle.vt_meta.proofs.MemberLemmas.{Contains-filter, Contains-from_filter, Contains-insert_key_cases, Contains-insert_key_old, Contains-insert_key_new}
-use Rattle.vt_meta.proofs.OrderedLemmas.{IsStrictlySortedBy-insert_key}
+use Rattle.vt_model.specs.Linking.{link_order, is_link}
+use Rattle.vt_model.specs.declared.model.Link.{Link}
+use Rattle.vt_model.proofs.MemberLemmas.{Contains-filter, Contains-from_filter, Contains-insert_key_cases, Contains-insert_key_old, Contains-insert_key_new}
+use Rattle.vt_model.proofs.OrderedLemmas.{IsStrictlySortedBy-insert_key}
 use Rattle.vt_slots.specs.Ends.{objects_of}
 use Rattle.vt_slots.specs.Slots.{NumbersRise, ends_at}
 use Rattle.vt_slots.specs.declared.slot.Side.{Side}

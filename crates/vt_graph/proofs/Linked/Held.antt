@@ -4,10 +4,10 @@ use Rattle.std.specs.Prelude.{Result, Ok, Err, OnOk, OnErr}
 use Rattle.std.specs.BTreeSet.{insert_key}
 use Rattle.vt_base.specs.declared.numbers.ObjId.{ObjId}
 use Rattle.vt_base.specs.declared.numbers.RefId.{RefId}
-use Rattle.vt_meta.specs.Metamodel.{Metamodel}
-use Rattle.vt_meta.specs.Linking.{link_order, is_link}
-use Rattle.vt_meta.specs.declared.model.Link.{Link}
-use Rattle.vt_meta.specs.declared.model.Object.{Object}
+use Rattle.vt_model.specs.Metamodel.{Metamodel}
+use Rattle.vt_model.specs.Linking.{link_order, is_link}
+use Rattle.vt_model.specs.declared.model.Link.{Link}
+use Rattle.vt_model.specs.declared.model.Object.{Object}
 use Rattle.vt_slots.specs.Ends.{EndList, objects_of}
 use Rattle.vt_slots.specs.Slots.{slot_at, body_at, ends_on, ends_at, bare}
 use Rattle.vt_slots.specs.declared.slot.Side.{Side}

@@ -10,9 +10,9 @@ use Rattle.std.proofs.lemmas.Bool.Decides.{nat_tests}
 use Rattle.std.proofs.lemmas.List.Kept.{IsStrictlySortedBy-filter}
 use Rattle.vt_base.specs.declared.numbers.ObjId.{ObjId}
 use Rattle.vt_base.specs.declared.numbers.RefId.{RefId}
-use Rattle.vt_meta.specs.Linking.{link_order}
-use Rattle.vt_meta.specs.declared.model.Link.{Link}
-use Rattle.vt_meta.proofs.MemberLemmas.{Contains-head, Contains-behind, Contains-map, Contains-filter, Contains-from_filter}
+use Rattle.vt_model.specs.Linking.{link_order}
+use Rattle.vt_model.specs.declared.model.Link.{Link}
+use Rattle.vt_model.proofs.MemberLemmas.{Contains-head, Contains-behind, Contains-map, Contains-filter, Contains-from_filter}
 use Rattle.vt_slots.specs.Ends.{number_order, objects_of}
 use Rattle.vt_slots.specs.Slots.{NumbersRise, ends_at}
 use Rattle.vt_slots.specs.declared.slot.Side.{Side}

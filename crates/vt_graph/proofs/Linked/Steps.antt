@@ -6,8 +6,8 @@ use Rattle.std.proofs.Math.Nat.{le_of_eq, le_trans}
 use Rattle.std.proofs.lemmas.Bool.{not_from_false}
 use Rattle.vt_base.specs.declared.numbers.ObjId.{ObjId}
 use Rattle.vt_base.specs.declared.numbers.RefId.{RefId}
-use Rattle.vt_meta.specs.declared.model.Link.{Link}
-use Rattle.vt_meta.proofs.MemberLemmas.{Contains-filter, Contains-from_filter, Contains-insert_key_cases, Contains-insert_key_old}
+use Rattle.vt_model.specs.declared.model.Link.{Link}
+use Rattle.vt_model.proofs.MemberLemmas.{Contains-filter, Contains-from_filter, Contains-insert_key_cases, Contains-insert_key_old}
 use Rattle.vt_slots.specs.Ends.{EndList, number_order, ObjectsRise, objects_of, AddsEnd, DropsEnd, SameEnds, KeepsRoom, SameRoom}
 use Rattle.vt_slots.specs.Slots.{slot_at, body_at, ends_at, bare, bare_body, OtherEndsStay}
 use Rattle.vt_slots.specs.declared.slot.Side.{Side}

@@ -11,9 +11,9 @@ use Rattle.std.proofs.lemmas.Cmp.{then_total, on_total, tied_itself}
 use Rattle.std.proofs.lemmas.List.Elements.{All-contains}
 use Rattle.vt_base.specs.declared.numbers.ObjId.{ObjId}
 use Rattle.vt_base.specs.declared.numbers.RefId.{RefId}
-use Rattle.vt_meta.specs.Linking.{link_order}
-use Rattle.vt_meta.specs.declared.model.Link.{Link}
-use Rattle.vt_meta.proofs.MemberLemmas.{Contains-nil, Contains-head, Contains-behind, Contains-cons_cases, Contains-map}
+use Rattle.vt_model.specs.Linking.{link_order}
+use Rattle.vt_model.specs.declared.model.Link.{Link}
+use Rattle.vt_model.proofs.MemberLemmas.{Contains-nil, Contains-head, Contains-behind, Contains-cons_cases, Contains-map}
 use Rattle.vt_slots.specs.Ends.{EndList, number_order, ObjectsRise, reference_order, objects_of}
 use Rattle.vt_slots.specs.Slots.{slot_order, NumbersRise, slot_at, body_at, ends_on, ends_at}
 use Rattle.vt_slots.specs.declared.slot.Side.{Side}

@@ -2,7 +2,7 @@
 use Rattle.std.specs.Prelude.{◌≡◌, ◌<◌, ◌≤◌, List, All, length}
 use Rattle.vt_base.specs.declared.numbers.ObjId.{ObjId}
 use Rattle.vt_base.specs.declared.numbers.RefId.{RefId}
-use Rattle.vt_meta.specs.declared.model.Link.{Link}
+use Rattle.vt_model.specs.declared.model.Link.{Link}
 use Rattle.vt_slots.specs.Ends.{EndList, ReferencesRise, ObjectsRise, objects_of, capacity_of, AddsEnd, DropsEnd, SameEnds, KeepsRoom}
 use Rattle.vt_slots.specs.Slots.{ends_at}
 use Rattle.vt_slots.specs.declared.slot.Side.{Side}

@@ -2,8 +2,8 @@
 use Rattle.std.specs.Prelude.{◌≡◌, ℕ, ◌<◌, ◌≤◌, ◌↔◌, List, map, length, Contains, All, IfSome}
 use Rattle.vt_base.specs.declared.numbers.ObjId.{ObjId}
 use Rattle.vt_base.specs.declared.numbers.ClassId.{ClassId}
-use Rattle.vt_meta.specs.Metamodel.{Metamodel}
-use Rattle.vt_meta.specs.declared.model.Link.{Link}
+use Rattle.vt_model.specs.Metamodel.{Metamodel}
+use Rattle.vt_model.specs.declared.model.Link.{Link}
 use Rattle.vt_slots.specs.Ends.{ReferencesRise, ObjectsRise, objects_of}
 use Rattle.vt_slots.specs.Slots.{NumbersRise, NamesDiffer, ends_at}
 use Rattle.vt_slots.specs.declared.slot.Side.{Side}

@@ -2,7 +2,7 @@
 use Rattle.std.specs.Prelude.{List, [], ◌∷◌, ◌++◌, map, set, get_or, take, length, ◌-◌}
 use Rattle.vt_base.specs.declared.numbers.ObjId.{ObjId}
 use Rattle.vt_base.specs.declared.numbers.ClassId.{ClassId}
-use Rattle.vt_meta.specs.Creating.{default_value}
+use Rattle.vt_model.specs.Creating.{default_value}
 use Rattle.vt_slots.specs.declared.values.Held.{Held}
 use Rattle.vt_slots.specs.declared.slot.Body.{Body}
 use Rattle.vt_graph.specs.declared.plan.AttributePlan.{AttributePlan}

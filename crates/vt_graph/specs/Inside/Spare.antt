@@ -2,7 +2,7 @@
 use Rattle.std.specs.Prelude.{◌≡◌, [], All, None}
 use Rattle.vt_base.specs.declared.numbers.ClassId.{ClassId}
 use Rattle.vt_base.specs.declared.numbers.RefId.{RefId}
-use Rattle.vt_meta.specs.Metamodel.{Metamodel}
+use Rattle.vt_model.specs.Metamodel.{Metamodel}
 use Rattle.vt_slots.specs.Ends.{objects_of}
 use Rattle.vt_slots.specs.Slots.{ends_on}
 use Rattle.vt_slots.specs.declared.slot.Side.{Side}

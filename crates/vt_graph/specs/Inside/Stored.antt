@@ -2,11 +2,11 @@
 use Rattle.std.specs.Prelude.{ℕ, List, [], map, flat_map, Option, Some, None, option_map, unwrap_or}
 use Rattle.std.specs.List.{filter_map}
 use Rattle.vt_base.specs.declared.numbers.ObjId.{ObjId}
-use Rattle.vt_meta.specs.Model.{Model}
-use Rattle.vt_meta.specs.declared.model.Object.{Object}
-use Rattle.vt_meta.specs.declared.model.GoneObject.{GoneObject}
-use Rattle.vt_meta.specs.declared.model.AttributeValue.{AttributeValue}
-use Rattle.vt_meta.specs.declared.model.Link.{Link}
+use Rattle.vt_model.specs.Model.{Model}
+use Rattle.vt_model.specs.declared.model.Object.{Object}
+use Rattle.vt_model.specs.declared.model.GoneObject.{GoneObject}
+use Rattle.vt_model.specs.declared.model.AttributeValue.{AttributeValue}
+use Rattle.vt_model.specs.declared.model.Link.{Link}
 use Rattle.vt_slots.specs.Ends.{EndList}
 use Rattle.vt_slots.specs.declared.values.Held.{Held as HeldValue}
 use Rattle.vt_slots.specs.declared.slot.Body.{Body}

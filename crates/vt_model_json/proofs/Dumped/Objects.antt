@@ -7,11 +7,11 @@ use Rattle.std.proofs.lemmas.Bool.Decides.{nat_tests}
 use Rattle.std.proofs.lemmas.List.Elements.{All-contains}
 use Rattle.serde_json.specs.Data.{Items, no_items, item}
 use Rattle.vt_base.specs.declared.numbers.ClassId.{ClassId}
-use Rattle.vt_meta.specs.Metamodel.{Metamodel}
-use Rattle.vt_meta.specs.Model.{Model}
-use Rattle.vt_meta.specs.Valid.{IsValid, object_order}
-use Rattle.vt_meta.specs.declared.model.Object.{Object}
-use Rattle.vt_meta.proofs.MemberLemmas.{Contains-nil, Contains-cons_cases, Contains-find, find-some}
+use Rattle.vt_model.specs.Metamodel.{Metamodel}
+use Rattle.vt_model.specs.Model.{Model}
+use Rattle.vt_model.specs.Valid.{IsValid, object_order}
+use Rattle.vt_model.specs.declared.model.Object.{Object}
+use Rattle.vt_model.proofs.MemberLemmas.{Contains-nil, Contains-cons_cases, Contains-find, find-some}
 use Rattle.vt_slots.proofs.PlaceLemmas.{below}
 use Rattle.vt_graph.specs.Asked.{live_at, gone_at, class_at, or_gone}
 use Rattle.vt_graph.proofs.RisingLemmas.{first_below, rest_rises}

@@ -4,13 +4,13 @@ use Rattle.std.specs.Prelude.{Contains, Some, option_map, unwrap_or}
 use Rattle.std.proofs.lemmas.List.Elements.{All-contains}
 use Rattle.vt_base.specs.declared.numbers.ObjId.{ObjId}
 use Rattle.vt_base.specs.declared.numbers.RefId.{RefId}
-use Rattle.vt_meta.specs.Metamodel.{Metamodel}
-use Rattle.vt_meta.specs.Model.{Model}
-use Rattle.vt_meta.specs.Fits.{FitsReference}
-use Rattle.vt_meta.specs.Valid.{IsValid}
-use Rattle.vt_meta.specs.declared.model.Object.{Object}
-use Rattle.vt_meta.specs.declared.model.Link.{Link}
-use Rattle.vt_meta.proofs.MemberLemmas.{Contains-head, Contains-behind, find-some}
+use Rattle.vt_model.specs.Metamodel.{Metamodel}
+use Rattle.vt_model.specs.Model.{Model}
+use Rattle.vt_model.specs.Fits.{FitsReference}
+use Rattle.vt_model.specs.Valid.{IsValid}
+use Rattle.vt_model.specs.declared.model.Object.{Object}
+use Rattle.vt_model.specs.declared.model.Link.{Link}
+use Rattle.vt_model.proofs.MemberLemmas.{Contains-head, Contains-behind, find-some}
 use Rattle.vt_slots.specs.declared.slot.Side.TheVariants.{Outgoing}
 use Rattle.vt_graph.specs.Asked.{live_at, gone_at, or_gone, is_at, other_of, others_at}
 use Rattle.vt_model_json.specs.Dump.{name_of, links_of, target_names}

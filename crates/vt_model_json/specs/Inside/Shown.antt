@@ -1,7 +1,7 @@
 -- The names by which a dump shows objects.
 use Rattle.std.specs.Prelude.{ℕ, List, [], map, unwrap_or}
 use Rattle.vt_base.specs.declared.numbers.ObjId.{ObjId}
-use Rattle.vt_meta.specs.Model.{Model}
+use Rattle.vt_model.specs.Model.{Model}
 use Rattle.vt_graph.specs.Asked.{name_at}
 
 -- the name of an object, live or deleted; the empty one of an object that never was

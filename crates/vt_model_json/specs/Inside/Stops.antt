@@ -1,7 +1,7 @@
 -- Where a list of changes stops.
 use Rattle.std.specs.Prelude.{◌≡◌, Result, Err}
-use Rattle.vt_meta.specs.Model.{Model}
-use Rattle.vt_meta.specs.Transaction.{Stop}
+use Rattle.vt_model.specs.Model.{Model}
+use Rattle.vt_model.specs.Transaction.{Stop}
 use Rattle.vt_model_json.specs.declared.loading.ModelFault.{ModelFault}
 use Rattle.vt_model_json.specs.declared.loading.ModelFault.TheVariants.{NotJson, BadShape, Item, NoMemory}
 

@@ -1,9 +1,9 @@
 -- The parts of the text of a model.
 use Rattle.std.specs.Prelude.{ℕ, List, ◌++◌, codes, decimal}
 use Rattle.serde_json.specs.Written.{compact_text}
-use Rattle.vt_meta.specs.Metamodel.{Metamodel}
-use Rattle.vt_meta.specs.Model.{Model}
-use Rattle.vt_meta.specs.declared.model.Object.{Object}
+use Rattle.vt_model.specs.Metamodel.{Metamodel}
+use Rattle.vt_model.specs.Model.{Model}
+use Rattle.vt_model.specs.declared.model.Object.{Object}
 use Rattle.vt_model_json.specs.Dump.{object_data}
 
 -- the text before the objects

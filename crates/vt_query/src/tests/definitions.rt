@@ -4,8 +4,8 @@ ghost use Rattle.vt_base.specs.declared.aggregate.AggKind.TheVariants.{Sum, Min,
 ghost use Rattle.vt_base.specs.declared.value.Value.{Value};
 ghost use Rattle.vt_base.specs.declared.value.Value.TheVariants as value;
 ghost use Rattle.vt_text.specs.declared.expr.Expr.TheVariants as expr;
-ghost use Rattle.vt_meta.specs.Metamodel.{Metamodel};
-ghost use Rattle.vt_meta.specs.Model.{Model};
+ghost use Rattle.vt_model.specs.Metamodel.{Metamodel};
+ghost use Rattle.vt_model.specs.Model.{Model};
 ghost use Rattle.vt_query.specs.Terms.{agrees};
 ghost use Rattle.vt_query.specs.Holding.{Holds};
 ghost use Rattle.vt_query.specs.Tables.{StandFor};

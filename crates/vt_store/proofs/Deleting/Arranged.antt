@@ -16,11 +16,11 @@ use Rattle.std.proofs.lemmas.List.Kept.{IsStrictlySortedBy-dedup, Contains-dedup
 use Rattle.std.proofs.lemmas.List.Sorted.{Contains-permutation, IsPermutation-sym}
 use Rattle.std.proofs.lemmas.Map.Lookups.{exact_unsigned}
 use Rattle.vt_base.specs.declared.numbers.ObjId.{ObjId}
-use Rattle.vt_meta.specs.Assigning.{value_order}
-use Rattle.vt_meta.specs.Linking.{link_order, is_link}
-use Rattle.vt_meta.specs.Deleting.{gone_order}
-use Rattle.vt_meta.specs.Valid.{object_order}
-use Rattle.vt_meta.specs.declared.model.Link.{Link}
+use Rattle.vt_model.specs.Assigning.{value_order}
+use Rattle.vt_model.specs.Linking.{link_order, is_link}
+use Rattle.vt_model.specs.Deleting.{gone_order}
+use Rattle.vt_model.specs.Valid.{object_order}
+use Rattle.vt_model.specs.declared.model.Link.{Link}
 use Rattle.vt_slots.specs.Ends.{number_order}
 use Rattle.vt_store.specs.Inside.Levels.{IsArranged}
 use Rattle.vt_graph.proofs.Linked.Ends.{number_order_total, number_order-Equal}

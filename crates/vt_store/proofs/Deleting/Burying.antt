@@ -6,12 +6,12 @@ use Rattle.std.specs.declared.cmp.Ordering.TheVariants.{Less}
 use Rattle.std.proofs.lemmas.Map.Keys.{sorted_tail}
 use Rattle.std.proofs.lemmas.List.{drop_more}
 use Rattle.vt_base.specs.declared.numbers.ObjId.{ObjId}
-use Rattle.vt_meta.specs.Metamodel.{Metamodel}
-use Rattle.vt_meta.specs.Model.{Model}
-use Rattle.vt_meta.specs.Containing.{is_inside}
-use Rattle.vt_meta.specs.Valid.{IsValid}
-use Rattle.vt_meta.proofs.MemberLemmas.{Contains-head, Contains-behind, Contains-from_filter}
-use Rattle.vt_meta.proofs.Valid.Containment.{same_object}
+use Rattle.vt_model.specs.Metamodel.{Metamodel}
+use Rattle.vt_model.specs.Model.{Model}
+use Rattle.vt_model.specs.Containing.{is_inside}
+use Rattle.vt_model.specs.Valid.{IsValid}
+use Rattle.vt_model.proofs.MemberLemmas.{Contains-head, Contains-behind, Contains-from_filter}
+use Rattle.vt_model.proofs.Valid.Containment.{same_object}
 use Rattle.vt_store.specs.Inside.Levels.{numbers, objects_inside, touches, object_at, without_object, buried, IsBare, CanBury}
 use Rattle.vt_slots.specs.Ends.{number_order}
 use Rattle.vt_store.proofs.Deleting.ListLemmas.{find-filter}

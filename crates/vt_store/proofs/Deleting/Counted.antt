@@ -10,17 +10,17 @@ use Rattle.std.proofs.lemmas.List.{length-map}
 use Rattle.std.proofs.lemmas.Map.Keys.{sorted_tail}
 use Rattle.std.proofs.lemmas.List.Elements.{All-contains, Contains-append_left, Contains-append_right, Contains-append_cases}
 use Rattle.vt_base.specs.declared.numbers.ObjId.{ObjId}
-use Rattle.vt_meta.specs.Metamodel.{Metamodel}
-use Rattle.vt_meta.specs.Model.{Model}
-use Rattle.vt_meta.specs.Linking.{link_order, is_containment}
-use Rattle.vt_meta.specs.Containing.{Holds, LeadsOver, IsIn, is_inside}
-use Rattle.vt_meta.specs.Fits.{FitsReference}
-use Rattle.vt_meta.specs.Valid.{IsOnlyContainer, object_order, IsValid}
-use Rattle.vt_meta.specs.declared.model.Object.{Object}
-use Rattle.vt_meta.specs.declared.model.Link.{Link}
-use Rattle.vt_meta.proofs.MemberLemmas.{Contains-head, Contains-behind, Contains-nil, Contains-cons_cases, Contains-map, Contains-from_filter, All-from_contains, length-different}
-use Rattle.vt_meta.proofs.Valid.Containment.{same_object, IsAtOrIn, IsIn-Holds, IsIn-of_at_or_in, is_inside-IsAtOrIn}
-use Rattle.vt_meta.proofs.Valid.Sides.{LinkSide}
+use Rattle.vt_model.specs.Metamodel.{Metamodel}
+use Rattle.vt_model.specs.Model.{Model}
+use Rattle.vt_model.specs.Linking.{link_order, is_containment}
+use Rattle.vt_model.specs.Containing.{Holds, LeadsOver, IsIn, is_inside}
+use Rattle.vt_model.specs.Fits.{FitsReference}
+use Rattle.vt_model.specs.Valid.{IsOnlyContainer, object_order, IsValid}
+use Rattle.vt_model.specs.declared.model.Object.{Object}
+use Rattle.vt_model.specs.declared.model.Link.{Link}
+use Rattle.vt_model.proofs.MemberLemmas.{Contains-head, Contains-behind, Contains-nil, Contains-cons_cases, Contains-map, Contains-from_filter, All-from_contains, length-different}
+use Rattle.vt_model.proofs.Valid.Containment.{same_object, IsAtOrIn, IsIn-Holds, IsIn-of_at_or_in, is_inside-IsAtOrIn}
+use Rattle.vt_model.proofs.Valid.Sides.{LinkSide}
 use Rattle.vt_store.specs.Inside.Levels.{holds_by, children, level_below, levels_from, level_at, numbers}
 use Rattle.vt_store.proofs.Deleting.ListLemmas.{NoRepeats, AreDifferent-NoRepeats, NoRepeats-rising, NoRepeats-filter, NoRepeats-append, NoRepeats-map, NoRepeats-flat_map, apart-append}
 use Rattle.vt_store.proofs.Deleting.Levels.{Holds-children, Holds-level_below, levels_from-none, levels_from-append, IsAtOrIn-levels_from, IsAtOrIn-levels_from_one, Contains-levels_from-more, Contains-levels_from-inside}

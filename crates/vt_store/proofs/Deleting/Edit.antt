@@ -10,16 +10,16 @@ use Rattle.std.proofs.lemmas.List.Kept.{IsStrictlySortedBy-filter}
 use Rattle.std.proofs.lemmas.Map.Keys.{sorted_tail}
 use Rattle.std.proofs.lemmas.Map.Lookups.{exact_unsigned}
 use Rattle.vt_base.specs.declared.numbers.ObjId.{ObjId}
-use Rattle.vt_meta.specs.Metamodel.{Metamodel}
-use Rattle.vt_meta.specs.Model.{Model}
-use Rattle.vt_meta.specs.Containing.{is_inside}
-use Rattle.vt_meta.specs.Deleting.{gone_order, with_gone, deleted}
-use Rattle.vt_meta.specs.Valid.{object_order, IsValid}
-use Rattle.vt_meta.specs.declared.model.Object.{Object}
-use Rattle.vt_meta.specs.declared.model.GoneObject.{GoneObject}
-use Rattle.vt_meta.proofs.MemberLemmas.{Contains-nil, Contains-head, Contains-behind, Contains-cons_cases, Contains-filter, Contains-from_filter, Contains-insert_key_cases}
-use Rattle.vt_meta.proofs.Valid.Containment.{same_object as one_number}
-use Rattle.vt_meta.proofs.Valid.Gone.{gone_of, IsStrictlySortedBy-with_gone}
+use Rattle.vt_model.specs.Metamodel.{Metamodel}
+use Rattle.vt_model.specs.Model.{Model}
+use Rattle.vt_model.specs.Containing.{is_inside}
+use Rattle.vt_model.specs.Deleting.{gone_order, with_gone, deleted}
+use Rattle.vt_model.specs.Valid.{object_order, IsValid}
+use Rattle.vt_model.specs.declared.model.Object.{Object}
+use Rattle.vt_model.specs.declared.model.GoneObject.{GoneObject}
+use Rattle.vt_model.proofs.MemberLemmas.{Contains-nil, Contains-head, Contains-behind, Contains-cons_cases, Contains-filter, Contains-from_filter, Contains-insert_key_cases}
+use Rattle.vt_model.proofs.Valid.Containment.{same_object as one_number}
+use Rattle.vt_model.proofs.Valid.Gone.{gone_of, IsStrictlySortedBy-with_gone}
 use Rattle.vt_store.specs.Edits.{without, net, edit_of, same_object, same_gone, same_value, same_link}
 use Rattle.vt_store.specs.Inside.Levels.{objects_inside, touches}
 use Rattle.vt_store.proofs.RisingLemmas.{Contains-inserted_cases, Contains-inserted_old}

@@ -3,12 +3,12 @@ use Rattle.std.proofs.Common.{◌≡◌, ℕ, zero, suc, List, [], ◌∷◌, re
 use Rattle.std.specs.Prelude.{◌==◌, Contains, Option, Some, None, option_map, option_and_then}
 use Rattle.std.proofs.lemmas.Bool.{and_from, eq-eqb}
 use Rattle.vt_base.specs.declared.numbers.ObjId.{ObjId}
-use Rattle.vt_meta.specs.Metamodel.{Metamodel}
-use Rattle.vt_meta.specs.Model.{Model}
-use Rattle.vt_meta.specs.Linking.{is_containment}
-use Rattle.vt_meta.specs.Containing.{Holds, holder}
-use Rattle.vt_meta.proofs.MemberLemmas.{Contains-nil, Contains-head, Contains-cons_cases, find-some}
-use Rattle.vt_meta.proofs.Valid.Sides.{LinkSide}
+use Rattle.vt_model.specs.Metamodel.{Metamodel}
+use Rattle.vt_model.specs.Model.{Model}
+use Rattle.vt_model.specs.Linking.{is_containment}
+use Rattle.vt_model.specs.Containing.{Holds, holder}
+use Rattle.vt_model.proofs.MemberLemmas.{Contains-nil, Contains-head, Contains-cons_cases, find-some}
+use Rattle.vt_model.proofs.Valid.Sides.{LinkSide}
 use Rattle.vt_store.specs.Inside.Levels.{level_below, level_at, holder_after}
 use Rattle.vt_store.proofs.Deleting.Levels.{Holds-holder, is_holding, Contains-level_below, Holds-level_below}
 use Rattle.vt_store.proofs.Deleting.Counted.{same_holder}

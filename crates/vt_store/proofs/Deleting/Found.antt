@@ -5,14 +5,14 @@ use Rattle.std.specs.List.Sorted.{IsStrictlySortedBy}
 use Rattle.std.proofs.lemmas.Bool.{eqb-true}
 use Rattle.std.proofs.lemmas.List.Kept.{IsStrictlySortedBy-filter}
 use Rattle.vt_base.specs.declared.numbers.ObjId.{ObjId}
-use Rattle.vt_meta.specs.Metamodel.{Metamodel}
-use Rattle.vt_meta.specs.Model.{Model}
-use Rattle.vt_meta.specs.Containing.{is_inside}
-use Rattle.vt_meta.specs.Valid.{object_order, IsValid}
-use Rattle.vt_meta.specs.declared.model.Object.{Object}
-use Rattle.vt_meta.proofs.MemberLemmas.{Contains-map, Contains-filter, Contains-from_filter, Contains-find}
-use Rattle.vt_meta.proofs.Valid.Containment.{same_object}
-use Rattle.vt_meta.proofs.Valid.Sides.{LinkSide, LinkSide-valid}
+use Rattle.vt_model.specs.Metamodel.{Metamodel}
+use Rattle.vt_model.specs.Model.{Model}
+use Rattle.vt_model.specs.Containing.{is_inside}
+use Rattle.vt_model.specs.Valid.{object_order, IsValid}
+use Rattle.vt_model.specs.declared.model.Object.{Object}
+use Rattle.vt_model.proofs.MemberLemmas.{Contains-map, Contains-filter, Contains-from_filter, Contains-find}
+use Rattle.vt_model.proofs.Valid.Containment.{same_object}
+use Rattle.vt_model.proofs.Valid.Sides.{LinkSide, LinkSide-valid}
 use Rattle.vt_graph.specs.Asked.{live_at}
 use Rattle.vt_store.specs.Inside.Levels.{IsArranged, levels_from, numbers, objects_inside}
 use Rattle.vt_slots.specs.Ends.{number_order}

@@ -6,13 +6,13 @@ use Rattle.std.proofs.lemmas.Bool.{and_parts, and_from, or_cases, eqb-true, eq-e
 use Rattle.std.proofs.lemmas.List.{nil_from_length}
 use Rattle.std.proofs.lemmas.List.Elements.{Contains-append_left, Contains-append_right, Contains-append_cases}
 use Rattle.vt_base.specs.declared.numbers.ObjId.{ObjId}
-use Rattle.vt_meta.specs.Metamodel.{Metamodel}
-use Rattle.vt_meta.specs.Model.{Model}
-use Rattle.vt_meta.specs.Linking.{is_containment}
-use Rattle.vt_meta.specs.Containing.{Holds, holder, is_within, is_inside}
-use Rattle.vt_meta.specs.declared.model.Link.{Link}
-use Rattle.vt_meta.proofs.MemberLemmas.{Contains-nil, Contains-head, Contains-cons_cases, Contains-map, Contains-filter, Contains-from_filter, Contains-find}
-use Rattle.vt_meta.proofs.Valid.Containment.{same_object, IsAtOrIn, IsIn-Holds, IsIn-of_at_or_in}
+use Rattle.vt_model.specs.Metamodel.{Metamodel}
+use Rattle.vt_model.specs.Model.{Model}
+use Rattle.vt_model.specs.Linking.{is_containment}
+use Rattle.vt_model.specs.Containing.{Holds, holder, is_within, is_inside}
+use Rattle.vt_model.specs.declared.model.Link.{Link}
+use Rattle.vt_model.proofs.MemberLemmas.{Contains-nil, Contains-head, Contains-cons_cases, Contains-map, Contains-filter, Contains-from_filter, Contains-find}
+use Rattle.vt_model.proofs.Valid.Containment.{same_object, IsAtOrIn, IsIn-Holds, IsIn-of_at_or_in}
 use Rattle.vt_store.specs.Inside.Levels.{holds_by, children, level_below, levels_from, level_at}
 use Rattle.vt_graph.proofs.Linked.Stored.{Contains-from_map}
 use Rattle.vt_graph.proofs.ChosenLemmas.{Contains-flat_map, Contains-from_flat_map}

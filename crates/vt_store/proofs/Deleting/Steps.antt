@@ -7,19 +7,19 @@ use Rattle.std.specs.Prelude.{not, filter, fold, Contains}
 use Rattle.std.proofs.lemmas.List.Elements.{All-contains}
 use Rattle.vt_base.specs.declared.numbers.ObjId.{ObjId}
 use Rattle.vt_base.specs.declared.numbers.AttrId.{AttrId}
-use Rattle.vt_meta.specs.Metamodel.{Metamodel}
-use Rattle.vt_meta.specs.Model.{Model}
-use Rattle.vt_meta.specs.Containing.{is_inside}
-use Rattle.vt_meta.specs.Deleting.{deleted}
-use Rattle.vt_meta.specs.Fits.{FitsAttribute}
-use Rattle.vt_meta.specs.Valid.{object_order, IsValid}
-use Rattle.vt_meta.specs.declared.model.AttributeValue.{AttributeValue}
-use Rattle.vt_meta.specs.declared.model.Link.{Link}
-use Rattle.vt_meta.specs.Sound.{IsSound}
-use Rattle.vt_meta.proofs.Valid.Sides.{IsValid-sides, ObjectSide-valid, LinkSide-valid}
-use Rattle.vt_meta.proofs.Valid.ObjectSide.{ObjectSide-deleted}
-use Rattle.vt_meta.proofs.Valid.DeletedLinks.{LinkSide-deleted}
-use Rattle.vt_meta.proofs.MemberLemmas.{Contains-from_filter, Contains-map}
+use Rattle.vt_model.specs.Metamodel.{Metamodel}
+use Rattle.vt_model.specs.Model.{Model}
+use Rattle.vt_model.specs.Containing.{is_inside}
+use Rattle.vt_model.specs.Deleting.{deleted}
+use Rattle.vt_model.specs.Fits.{FitsAttribute}
+use Rattle.vt_model.specs.Valid.{object_order, IsValid}
+use Rattle.vt_model.specs.declared.model.AttributeValue.{AttributeValue}
+use Rattle.vt_model.specs.declared.model.Link.{Link}
+use Rattle.vt_model.specs.Sound.{IsSound}
+use Rattle.vt_model.proofs.Valid.Sides.{IsValid-sides, ObjectSide-valid, LinkSide-valid}
+use Rattle.vt_model.proofs.Valid.ObjectSide.{ObjectSide-deleted}
+use Rattle.vt_model.proofs.Valid.DeletedLinks.{LinkSide-deleted}
+use Rattle.vt_model.proofs.MemberLemmas.{Contains-from_filter, Contains-map}
 use Rattle.vt_store.specs.Inside.Levels.{numbers, all_values_out, object_at, objects_inside, touches, without_link, values_taken, buried}
 use Rattle.vt_slots.specs.Ends.{number_order}
 use Rattle.vt_store.proofs.Deleting.Found.{numbers-rise, Contains-objects_inside, is_inside-objects_inside}

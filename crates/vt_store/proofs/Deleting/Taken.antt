@@ -7,18 +7,18 @@ use Rattle.std.proofs.lemmas.List.Elements.{All-contains}
 use Rattle.std.proofs.lemmas.List.Sorted.{Contains-permutation, IsPermutation-reverse, IsPermutation-sym}
 use Rattle.vt_base.specs.declared.numbers.ObjId.{ObjId}
 use Rattle.vt_base.specs.declared.numbers.AttrId.{AttrId}
-use Rattle.vt_meta.specs.Metamodel.{Metamodel, isa}
-use Rattle.vt_meta.specs.Model.{Model}
-use Rattle.vt_meta.specs.Assigning.{is_value_of}
-use Rattle.vt_meta.specs.Linking.{is_link}
-use Rattle.vt_meta.specs.Fits.{FitsAttribute}
-use Rattle.vt_meta.specs.Valid.{IsValid}
-use Rattle.vt_meta.specs.declared.metamodel.AttrInfo.{AttrInfo}
-use Rattle.vt_meta.specs.declared.model.AttributeValue.{AttributeValue}
-use Rattle.vt_meta.specs.declared.model.Object.{Object}
-use Rattle.vt_meta.specs.declared.model.Link.{Link}
-use Rattle.vt_meta.proofs.MemberLemmas.{Contains-nil, Contains-head, Contains-behind, Contains-cons_cases, Contains-filter, Contains-from_filter}
-use Rattle.vt_meta.proofs.Valid.Containment.{same_object}
+use Rattle.vt_model.specs.Metamodel.{Metamodel, isa}
+use Rattle.vt_model.specs.Model.{Model}
+use Rattle.vt_model.specs.Assigning.{is_value_of}
+use Rattle.vt_model.specs.Linking.{is_link}
+use Rattle.vt_model.specs.Fits.{FitsAttribute}
+use Rattle.vt_model.specs.Valid.{IsValid}
+use Rattle.vt_model.specs.declared.metamodel.AttrInfo.{AttrInfo}
+use Rattle.vt_model.specs.declared.model.AttributeValue.{AttributeValue}
+use Rattle.vt_model.specs.declared.model.Object.{Object}
+use Rattle.vt_model.specs.declared.model.Link.{Link}
+use Rattle.vt_model.proofs.MemberLemmas.{Contains-nil, Contains-head, Contains-behind, Contains-cons_cases, Contains-filter, Contains-from_filter}
+use Rattle.vt_model.proofs.Valid.Containment.{same_object}
 use Rattle.vt_store.specs.Inside.Levels.{without_link, value_taken, values_taken}
 use Rattle.vt_store.proofs.Linking.Lists.{filter-filter, filter-agree}
 use Rattle.vt_graph.proofs.ChosenLemmas.{filter-all}

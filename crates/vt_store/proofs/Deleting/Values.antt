@@ -11,14 +11,14 @@ use Rattle.std.proofs.lemmas.List.Kept.{IsStrictlySortedBy-filter}
 use Rattle.vt_base.specs.declared.numbers.ObjId.{ObjId}
 use Rattle.vt_base.specs.declared.numbers.AttrId.{AttrId}
 use Rattle.vt_base.specs.declared.value.Value.{Value}
-use Rattle.vt_meta.specs.Metamodel.{Metamodel}
-use Rattle.vt_meta.specs.Model.{Model}
-use Rattle.vt_meta.specs.Assigning.{value_order, is_value_of, with_default_value}
-use Rattle.vt_meta.specs.Containing.{is_inside}
-use Rattle.vt_meta.specs.Valid.{IsValid}
-use Rattle.vt_meta.specs.declared.model.AttributeValue.{AttributeValue}
-use Rattle.vt_meta.proofs.MemberLemmas.{Contains-filter, Contains-from_filter, Contains-find}
-use Rattle.vt_meta.proofs.Valid.Containment.{same_object}
+use Rattle.vt_model.specs.Metamodel.{Metamodel}
+use Rattle.vt_model.specs.Model.{Model}
+use Rattle.vt_model.specs.Assigning.{value_order, is_value_of, with_default_value}
+use Rattle.vt_model.specs.Containing.{is_inside}
+use Rattle.vt_model.specs.Valid.{IsValid}
+use Rattle.vt_model.specs.declared.model.AttributeValue.{AttributeValue}
+use Rattle.vt_model.proofs.MemberLemmas.{Contains-filter, Contains-from_filter, Contains-find}
+use Rattle.vt_model.proofs.Valid.Containment.{same_object}
 use Rattle.vt_slots.specs.Values.{AttributesRise, attribute_order, value_in}
 use Rattle.vt_slots.specs.declared.values.Held.{Held}
 use Rattle.vt_graph.specs.Held.{Held as Graph}

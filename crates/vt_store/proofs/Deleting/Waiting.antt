@@ -9,12 +9,12 @@ use Rattle.std.proofs.lemmas.Map.Keys.{sorted_tail}
 use Rattle.vt_base.specs.declared.numbers.ObjId.{ObjId}
 use Rattle.vt_base.specs.declared.numbers.ClassId.{ClassId}
 use Rattle.vt_base.specs.declared.numbers.RefId.{RefId}
-use Rattle.vt_meta.specs.Model.{Model}
-use Rattle.vt_meta.specs.Deleting.{with_gone}
-use Rattle.vt_meta.specs.Valid.{object_order}
-use Rattle.vt_meta.specs.declared.model.Object.{Object}
-use Rattle.vt_meta.proofs.MemberLemmas.{All-from_contains, Contains-nil, Contains-head, Contains-behind, Contains-cons_cases, Contains-filter, Contains-find}
-use Rattle.vt_meta.proofs.Valid.Containment.{same_object}
+use Rattle.vt_model.specs.Model.{Model}
+use Rattle.vt_model.specs.Deleting.{with_gone}
+use Rattle.vt_model.specs.Valid.{object_order}
+use Rattle.vt_model.specs.declared.model.Object.{Object}
+use Rattle.vt_model.proofs.MemberLemmas.{All-from_contains, Contains-nil, Contains-head, Contains-behind, Contains-cons_cases, Contains-filter, Contains-find}
+use Rattle.vt_model.proofs.Valid.Containment.{same_object}
 use Rattle.vt_slots.specs.Ends.{capacity_of}
 use Rattle.vt_slots.specs.declared.slot.Side.{Side}
 use Rattle.vt_slots.specs.declared.slot.Side.TheVariants.{Outgoing, Incoming}

@@ -5,16 +5,16 @@ use Rattle.std.specs.List.Sorted.{IsStrictlySortedBy}
 use Rattle.std.proofs.lemmas.List.Elements.{All-contains}
 use Rattle.std.proofs.lemmas.List.Kept.{IsStrictlySortedBy-filter}
 use Rattle.vt_base.specs.declared.numbers.ObjId.{ObjId}
-use Rattle.vt_meta.specs.Metamodel.{Metamodel}
-use Rattle.vt_meta.specs.Model.{Model}
-use Rattle.vt_meta.specs.Containing.{is_inside}
-use Rattle.vt_meta.specs.Deleting.{deleted}
-use Rattle.vt_meta.specs.Fits.{FitsAttribute}
-use Rattle.vt_meta.specs.Valid.{object_order, IsValid}
-use Rattle.vt_meta.specs.declared.model.Object.{Object}
-use Rattle.vt_meta.specs.declared.model.AttributeValue.{AttributeValue}
-use Rattle.vt_meta.specs.declared.model.Link.{Link}
-use Rattle.vt_meta.proofs.MemberLemmas.{All-from_contains, Contains-from_filter}
+use Rattle.vt_model.specs.Metamodel.{Metamodel}
+use Rattle.vt_model.specs.Model.{Model}
+use Rattle.vt_model.specs.Containing.{is_inside}
+use Rattle.vt_model.specs.Deleting.{deleted}
+use Rattle.vt_model.specs.Fits.{FitsAttribute}
+use Rattle.vt_model.specs.Valid.{object_order, IsValid}
+use Rattle.vt_model.specs.declared.model.Object.{Object}
+use Rattle.vt_model.specs.declared.model.AttributeValue.{AttributeValue}
+use Rattle.vt_model.specs.declared.model.Link.{Link}
+use Rattle.vt_model.proofs.MemberLemmas.{All-from_contains, Contains-from_filter}
 use Rattle.vt_graph.specs.Held.{Held, Buried}
 use Rattle.vt_graph.specs.Having.{HasAttribute}
 use Rattle.vt_graph.specs.Room.{KeepsRoom}

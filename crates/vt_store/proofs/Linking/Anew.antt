@@ -8,13 +8,13 @@ use Rattle.std.proofs.lemmas.List.{reverse-append}
 use Rattle.std.proofs.lemmas.List.Sums.{fold-append}
 use Rattle.std.proofs.lemmas.List.Kept.{IsStrictlySortedBy-filter}
 use Rattle.std.proofs.lemmas.Bool.{both_ways, not-true, not_from_false}
-use Rattle.vt_meta.specs.Metamodel.{Metamodel}
-use Rattle.vt_meta.specs.Model.{Model}
-use Rattle.vt_meta.specs.Linking.{is_dropped, is_link, link_back, link_order, relinked, with_link}
-use Rattle.vt_meta.specs.declared.model.Link.{Link}
-use Rattle.vt_meta.proofs.MemberLemmas.{Contains-filter, Contains-from_filter}
-use Rattle.vt_meta.proofs.Valid.Dropped.{Comes}
-use Rattle.vt_meta.proofs.Valid.WithLink.{Contains-with_link_cases, Contains-with_link_old, Contains-with_link_new, IsStrictlySortedBy-with_link}
+use Rattle.vt_model.specs.Metamodel.{Metamodel}
+use Rattle.vt_model.specs.Model.{Model}
+use Rattle.vt_model.specs.Linking.{is_dropped, is_link, link_back, link_order, relinked, with_link}
+use Rattle.vt_model.specs.declared.model.Link.{Link}
+use Rattle.vt_model.proofs.MemberLemmas.{Contains-filter, Contains-from_filter}
+use Rattle.vt_model.proofs.Valid.Dropped.{Comes}
+use Rattle.vt_model.proofs.Valid.WithLink.{Contains-with_link_cases, Contains-with_link_old, Contains-with_link_new, IsStrictlySortedBy-with_link}
 use Rattle.vt_store.specs.Edits.{same_link, without}
 use Rattle.vt_graph.specs.Held.{Place}
 use Rattle.vt_graph.specs.Room.{KeepsRoom}

@@ -10,9 +10,9 @@ use Rattle.std.proofs.lemmas.Cmp.{eq_by_cmp_equiv}
 use Rattle.std.proofs.lemmas.List.Filters.{dedup_is}
 use Rattle.std.proofs.lemmas.List.Kept.{IsStrictlySortedBy-dedup, Contains-dedup, Contains-from_dedup}
 use Rattle.std.proofs.lemmas.List.Sorted.{Contains-permutation, IsPermutation-sym}
-use Rattle.vt_meta.specs.Linking.{link_order, is_link}
-use Rattle.vt_meta.specs.declared.model.Link.{Link}
-use Rattle.vt_meta.specs.contracts.model.LinkPartialEq.TheImpl.{eq-value}
+use Rattle.vt_model.specs.Linking.{link_order, is_link}
+use Rattle.vt_model.specs.declared.model.Link.{Link}
+use Rattle.vt_model.specs.contracts.model.LinkPartialEq.TheImpl.{eq-value}
 use Rattle.vt_store.specs.Inside.Displaced.{IsArranged}
 use Rattle.vt_graph.proofs.RisingLemmas.{same_items}
 use Rattle.vt_graph.proofs.Linked.Changed.{is_link-same}

@@ -8,14 +8,14 @@ use Rattle.std.specs.declared.cmp.Ordering.TheVariants.{Less, Equal, Greater}
 use Rattle.std.proofs.lemmas.List.Kept.{IsStrictlySortedBy-filter}
 use Rattle.vt_base.specs.declared.numbers.ObjId.{ObjId}
 use Rattle.vt_base.specs.declared.numbers.RefId.{RefId}
-use Rattle.vt_meta.specs.Metamodel.{Metamodel}
-use Rattle.vt_meta.specs.Model.{Model}
-use Rattle.vt_meta.specs.Linking.{link_order, link_back, is_dropped, with_back, with_link, relinked}
-use Rattle.vt_meta.specs.Sound.{IsSound}
-use Rattle.vt_meta.specs.Valid.{IsValid}
-use Rattle.vt_meta.specs.declared.model.Link.{Link}
-use Rattle.vt_meta.proofs.MemberLemmas.{Contains-nil, Contains-filter, Contains-from_filter}
-use Rattle.vt_meta.proofs.Valid.WithLink.{Contains-with_link_cases, Contains-with_link_new, IsStrictlySortedBy-with_link}
+use Rattle.vt_model.specs.Metamodel.{Metamodel}
+use Rattle.vt_model.specs.Model.{Model}
+use Rattle.vt_model.specs.Linking.{link_order, link_back, is_dropped, with_back, with_link, relinked}
+use Rattle.vt_model.specs.Sound.{IsSound}
+use Rattle.vt_model.specs.Valid.{IsValid}
+use Rattle.vt_model.specs.declared.model.Link.{Link}
+use Rattle.vt_model.proofs.MemberLemmas.{Contains-nil, Contains-filter, Contains-from_filter}
+use Rattle.vt_model.proofs.Valid.WithLink.{Contains-with_link_cases, Contains-with_link_new, IsStrictlySortedBy-with_link}
 use Rattle.vt_store.specs.Inside.Displaced.{targets_of, sources_of, with_opposite, candidates, IsArranged, NoneStands, without_link, without_each, without_back, with_one, with_each}
 use Rattle.vt_store.proofs.Linking.Coming.{link_back_differs}
 use Rattle.vt_store.proofs.Linking.Ends.{AreSources, Contains-with_opposite, Contains-from_with_opposite}

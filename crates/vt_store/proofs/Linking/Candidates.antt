@@ -7,15 +7,15 @@ use Rattle.std.proofs.lemmas.Bool.{or_cases}
 use Rattle.std.proofs.lemmas.List.Elements.{All-contains, Contains-append_left, Contains-append_right, Contains-append_cases}
 use Rattle.vt_base.specs.declared.numbers.ObjId.{ObjId}
 use Rattle.vt_base.specs.declared.numbers.RefId.{RefId}
-use Rattle.vt_meta.specs.Metamodel.{Metamodel}
-use Rattle.vt_meta.specs.Model.{Model}
-use Rattle.vt_meta.specs.Linking.{is_many, is_containment, has_single_opposite, link_back, displaces, is_dropped}
-use Rattle.vt_meta.specs.Sound.{IsSound}
-use Rattle.vt_meta.specs.Valid.{IsValid, HasItsOpposite}
-use Rattle.vt_meta.specs.declared.model.Link.{Link}
-use Rattle.vt_meta.proofs.MemberLemmas.{Contains-nil}
-use Rattle.vt_meta.proofs.Valid.Backs.{IsBack-link_back}
-use Rattle.vt_meta.proofs.Valid.Dropped.{Comes, is_dropped-displaces, is_dropped-link_back}
+use Rattle.vt_model.specs.Metamodel.{Metamodel}
+use Rattle.vt_model.specs.Model.{Model}
+use Rattle.vt_model.specs.Linking.{is_many, is_containment, has_single_opposite, link_back, displaces, is_dropped}
+use Rattle.vt_model.specs.Sound.{IsSound}
+use Rattle.vt_model.specs.Valid.{IsValid, HasItsOpposite}
+use Rattle.vt_model.specs.declared.model.Link.{Link}
+use Rattle.vt_model.proofs.MemberLemmas.{Contains-nil}
+use Rattle.vt_model.proofs.Valid.Backs.{IsBack-link_back}
+use Rattle.vt_model.proofs.Valid.Dropped.{Comes, is_dropped-displaces, is_dropped-link_back}
 use Rattle.vt_store.specs.Inside.Displaced.{targets_of, sources_of, with_opposite, to_targets, from_sources, old_targets, old_sources, held_from, old_containers, candidates}
 use Rattle.vt_store.proofs.Linking.Ends.{from_to, Contains-with_opposite, Contains-from_with_opposite, target_stands, target_listed, source_stands, source_listed, AreSources, listed_stands, stands_listed}
 use Rattle.vt_store.proofs.Linking.Displaces.{IsOldTarget, IsOldSource, IsOldContainer, displaces-cases, displaces-old_target, displaces-old_source, displaces-old_container}

@@ -2,15 +2,15 @@
 use Rattle.std.proofs.Common.{◌≡◌, refl, sym, ap, subst, true, false, inl, inr}
 use Rattle.std.specs.Prelude.{Contains, Some}
 use Rattle.std.proofs.lemmas.List.Elements.{All-contains}
-use Rattle.vt_meta.specs.Metamodel.{Metamodel}
-use Rattle.vt_meta.specs.Model.{Model}
-use Rattle.vt_meta.specs.Linking.{is_link, stands, link_back, oriented, relinked, linked}
-use Rattle.vt_meta.specs.Fits.{FitsReference}
-use Rattle.vt_meta.specs.Sound.{IsSound}
-use Rattle.vt_meta.specs.Valid.{IsValid, HasItsOpposite}
-use Rattle.vt_meta.specs.declared.model.Link.{Link}
-use Rattle.vt_meta.proofs.Valid.Backs.{oriented-either, IsBack-link_back, FitsReference-link_back}
-use Rattle.vt_meta.proofs.Valid.Dropped.{Comes}
+use Rattle.vt_model.specs.Metamodel.{Metamodel}
+use Rattle.vt_model.specs.Model.{Model}
+use Rattle.vt_model.specs.Linking.{is_link, stands, link_back, oriented, relinked, linked}
+use Rattle.vt_model.specs.Fits.{FitsReference}
+use Rattle.vt_model.specs.Sound.{IsSound}
+use Rattle.vt_model.specs.Valid.{IsValid, HasItsOpposite}
+use Rattle.vt_model.specs.declared.model.Link.{Link}
+use Rattle.vt_model.proofs.Valid.Backs.{oriented-either, IsBack-link_back, FitsReference-link_back}
+use Rattle.vt_model.proofs.Valid.Dropped.{Comes}
 use Rattle.vt_store.specs.Inside.Displaced.{NoneStands}
 use Rattle.vt_store.proofs.Linking.Links.{is_link-differs, not_listed}
 

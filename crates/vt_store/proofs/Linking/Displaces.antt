@@ -2,9 +2,9 @@
 use Rattle.std.proofs.Common.{◌≡◌, ap, Bool, true, false, not, ◌⊎◌, inl, inr}
 use Rattle.std.specs.Prelude.{◌==◌, ◌&&◌, ◌||◌}
 use Rattle.std.proofs.lemmas.Bool.{and_parts, and_from, or_cases, or_left, or_right, eqb-true, eq-eqb, not-true, not_from_false}
-use Rattle.vt_meta.specs.Metamodel.{Metamodel}
-use Rattle.vt_meta.specs.Linking.{is_many, is_containment, has_single_opposite, displaces}
-use Rattle.vt_meta.specs.declared.model.Link.{Link}
+use Rattle.vt_model.specs.Metamodel.{Metamodel}
+use Rattle.vt_model.specs.Linking.{is_many, is_containment, has_single_opposite, displaces}
+use Rattle.vt_model.specs.declared.model.Link.{Link}
 use Rattle.vt_graph.proofs.SlotLemmas.{same_object}
 use Rattle.vt_graph.proofs.Linked.Ends.{same_reference}
 

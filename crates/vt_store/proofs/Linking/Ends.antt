@@ -12,12 +12,12 @@ use Rattle.std.proofs.lemmas.Cmp.{on_total, nat_cmp_total, tied_itself}
 use Rattle.vt_base.specs.declared.numbers.ObjId.{ObjId}
 use Rattle.vt_base.specs.declared.numbers.RefId.{RefId}
 use Rattle.vt_base.proofs.RowsLemmas.{has-searched}
-use Rattle.vt_meta.specs.Metamodel.{Metamodel}
-use Rattle.vt_meta.specs.Model.{Model}
-use Rattle.vt_meta.specs.Linking.{link_back, is_link, stands}
-use Rattle.vt_meta.specs.declared.model.Link.{Link}
-use Rattle.vt_meta.proofs.MemberLemmas.{Contains-head, Contains-behind, Contains-nil, Contains-cons_cases, Contains-filter, Contains-from_filter, Contains-map, Contains-find, find-some}
-use Rattle.vt_meta.proofs.Valid.Dropped.{Comes}
+use Rattle.vt_model.specs.Metamodel.{Metamodel}
+use Rattle.vt_model.specs.Model.{Model}
+use Rattle.vt_model.specs.Linking.{link_back, is_link, stands}
+use Rattle.vt_model.specs.declared.model.Link.{Link}
+use Rattle.vt_model.proofs.MemberLemmas.{Contains-head, Contains-behind, Contains-nil, Contains-cons_cases, Contains-filter, Contains-from_filter, Contains-map, Contains-find, find-some}
+use Rattle.vt_model.proofs.Valid.Dropped.{Comes}
 use Rattle.vt_store.specs.Inside.Displaced.{targets_of, sources_of, beside, with_opposite}
 use Rattle.vt_graph.proofs.RisingLemmas.{tied_is}
 use Rattle.vt_graph.proofs.Linked.Stored.{Contains-from_map, same_ends}

@@ -9,15 +9,15 @@ use Rattle.std.proofs.lemmas.List.Elements.{All-map}
 use Rattle.std.proofs.lemmas.Map.Views.{length-le_from_below}
 use Rattle.vt_graph.proofs.HadLemmas.{rises-map}
 use Rattle.vt_base.specs.declared.numbers.ObjId.{ObjId}
-use Rattle.vt_meta.specs.Metamodel.{Metamodel}
-use Rattle.vt_meta.specs.Model.{Model}
-use Rattle.vt_meta.specs.Linking.{is_containment}
-use Rattle.vt_meta.specs.Containing.{Holds, holder, is_within, is_inside}
-use Rattle.vt_meta.specs.Valid.{IsValid}
-use Rattle.vt_meta.specs.declared.model.Link.{Link}
-use Rattle.vt_meta.proofs.MemberLemmas.{Contains-find}
-use Rattle.vt_meta.proofs.Valid.Sides.{LinkSide-valid}
-use Rattle.vt_meta.proofs.Valid.Containment.{same_object, IsAtOrIn, IsIn-Holds, IsIn-at_or_in, is_inside-iff}
+use Rattle.vt_model.specs.Metamodel.{Metamodel}
+use Rattle.vt_model.specs.Model.{Model}
+use Rattle.vt_model.specs.Linking.{is_containment}
+use Rattle.vt_model.specs.Containing.{Holds, holder, is_within, is_inside}
+use Rattle.vt_model.specs.Valid.{IsValid}
+use Rattle.vt_model.specs.declared.model.Link.{Link}
+use Rattle.vt_model.proofs.MemberLemmas.{Contains-find}
+use Rattle.vt_model.proofs.Valid.Sides.{LinkSide-valid}
+use Rattle.vt_model.proofs.Valid.Containment.{same_object, IsAtOrIn, IsIn-Holds, IsIn-at_or_in, is_inside-iff}
 
 module _ (meta : Metamodel) (g : Model) where
   -- the holder that is found holds

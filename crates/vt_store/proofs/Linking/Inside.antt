@@ -7,13 +7,13 @@ use Rattle.std.proofs.lemmas.Bool.{and_parts, and_from, eqb-true, eq-eqb, both_w
 use Rattle.std.proofs.lemmas.List.Elements.{All-contains}
 use Rattle.vt_base.specs.declared.numbers.ObjId.{ObjId}
 use Rattle.vt_base.specs.declared.numbers.RefId.{RefId}
-use Rattle.vt_meta.specs.Metamodel.{Metamodel}
-use Rattle.vt_meta.specs.Model.{Model}
-use Rattle.vt_meta.specs.Linking.{is_containment}
-use Rattle.vt_meta.specs.Containing.{holder, is_within}
-use Rattle.vt_meta.specs.Valid.{IsValid, IsOnlyContainer}
-use Rattle.vt_meta.specs.declared.model.Link.{Link}
-use Rattle.vt_meta.proofs.MemberLemmas.{Contains-nil, Contains-head, Contains-behind, Contains-cons_cases, Contains-find, find-some}
+use Rattle.vt_model.specs.Metamodel.{Metamodel}
+use Rattle.vt_model.specs.Model.{Model}
+use Rattle.vt_model.specs.Linking.{is_containment}
+use Rattle.vt_model.specs.Containing.{holder, is_within}
+use Rattle.vt_model.specs.Valid.{IsValid, IsOnlyContainer}
+use Rattle.vt_model.specs.declared.model.Link.{Link}
+use Rattle.vt_model.proofs.MemberLemmas.{Contains-nil, Contains-head, Contains-behind, Contains-cons_cases, Contains-find, find-some}
 use Rattle.vt_store.specs.Inside.Displaced.{sources_of, first_or, holder_in}
 use Rattle.vt_store.proofs.Linking.Ends.{from_to, AreSources, listed_stands, stands_listed}
 use Rattle.vt_graph.proofs.SlotLemmas.{same_object}

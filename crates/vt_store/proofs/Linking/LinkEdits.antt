@@ -9,19 +9,19 @@ use Rattle.std.proofs.lemmas.Bool.{and_from, eq-eqb, both_ways, not-true, not_fr
 use Rattle.std.proofs.lemmas.Cmp.{tied_itself}
 use Rattle.std.proofs.lemmas.List.Kept.{IsStrictlySortedBy-filter}
 use Rattle.vt_base.specs.Inside.OrderLaws.{IsTotalOrder-value_cmp}
-use Rattle.vt_meta.specs.Metamodel.{Metamodel}
-use Rattle.vt_meta.specs.Declarations.{is_name}
-use Rattle.vt_meta.specs.Model.{Model}
-use Rattle.vt_meta.specs.Linking.{link_order, is_link, stands, oriented, is_dropped, with_link, relinked, linked}
-use Rattle.vt_meta.specs.Sound.{IsSound}
-use Rattle.vt_meta.specs.Valid.{IsValid}
-use Rattle.vt_meta.specs.declared.model.Object.{Object}
-use Rattle.vt_meta.specs.declared.model.GoneObject.{GoneObject}
-use Rattle.vt_meta.specs.declared.model.AttributeValue.{AttributeValue}
-use Rattle.vt_meta.specs.declared.model.Link.{Link}
-use Rattle.vt_meta.proofs.MemberLemmas.{Contains-nil, Contains-filter, Contains-from_filter}
-use Rattle.vt_meta.proofs.Valid.Dropped.{Comes}
-use Rattle.vt_meta.proofs.Valid.WithLink.{Contains-with_link_cases, Contains-with_link_old, Contains-with_link_new, IsStrictlySortedBy-with_link}
+use Rattle.vt_model.specs.Metamodel.{Metamodel}
+use Rattle.vt_model.specs.Words.{is_name}
+use Rattle.vt_model.specs.Model.{Model}
+use Rattle.vt_model.specs.Linking.{link_order, is_link, stands, oriented, is_dropped, with_link, relinked, linked}
+use Rattle.vt_model.specs.Sound.{IsSound}
+use Rattle.vt_model.specs.Valid.{IsValid}
+use Rattle.vt_model.specs.declared.model.Object.{Object}
+use Rattle.vt_model.specs.declared.model.GoneObject.{GoneObject}
+use Rattle.vt_model.specs.declared.model.AttributeValue.{AttributeValue}
+use Rattle.vt_model.specs.declared.model.Link.{Link}
+use Rattle.vt_model.proofs.MemberLemmas.{Contains-nil, Contains-filter, Contains-from_filter}
+use Rattle.vt_model.proofs.Valid.Dropped.{Comes}
+use Rattle.vt_model.proofs.Valid.WithLink.{Contains-with_link_cases, Contains-with_link_old, Contains-with_link_new, IsStrictlySortedBy-with_link}
 use Rattle.vt_store.specs.Edits.{same_object, same_gone, same_value, same_link, without, net, edit_of}
 use Rattle.vt_store.specs.Inside.Displaced.{NoneStands, no_change, links_edit}
 use Rattle.vt_store.proofs.Linking.Lists.{filter-agree, filter-none, without-itself}

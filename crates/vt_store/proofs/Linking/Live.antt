@@ -9,19 +9,19 @@ use Rattle.std.proofs.lemmas.List.Elements.{All-contains, All-filter, All-weaker
 use Rattle.vt_base.specs.declared.numbers.ObjId.{ObjId}
 use Rattle.vt_base.specs.declared.numbers.ClassId.{ClassId}
 use Rattle.vt_base.specs.declared.numbers.RefId.{RefId}
-use Rattle.vt_meta.specs.Metamodel.{Metamodel, feature}
-use Rattle.vt_meta.specs.Model.{Model, object_named, feature_at}
-use Rattle.vt_meta.specs.Linking.{reference_of, is_target, link_back, oriented, with_link}
-use Rattle.vt_meta.specs.Fits.{IsLive, FitsReference}
-use Rattle.vt_meta.specs.Sound.{IsSound}
-use Rattle.vt_meta.specs.Valid.{IsValid, object_order}
-use Rattle.vt_meta.specs.declared.model.Object.{Object}
-use Rattle.vt_meta.specs.declared.model.Link.{Link}
-use Rattle.vt_meta.proofs.MemberLemmas.{Contains-nil, Contains-find, find-some, All-from_contains}
-use Rattle.vt_meta.proofs.Valid.Backs.{IsByOpposite-link_back}
-use Rattle.vt_meta.proofs.Valid.Dropped.{Comes}
-use Rattle.vt_meta.proofs.Valid.LinkAsked.{FitsReference-asked}
-use Rattle.vt_meta.proofs.Valid.WithLink.{Contains-with_link_cases}
+use Rattle.vt_model.specs.Metamodel.{Metamodel, feature}
+use Rattle.vt_model.specs.Model.{Model, object_named, feature_at}
+use Rattle.vt_model.specs.Linking.{reference_of, is_target, link_back, oriented, with_link}
+use Rattle.vt_model.specs.Fits.{IsLive, FitsReference}
+use Rattle.vt_model.specs.Sound.{IsSound}
+use Rattle.vt_model.specs.Valid.{IsValid, object_order}
+use Rattle.vt_model.specs.declared.model.Object.{Object}
+use Rattle.vt_model.specs.declared.model.Link.{Link}
+use Rattle.vt_model.proofs.MemberLemmas.{Contains-nil, Contains-find, find-some, All-from_contains}
+use Rattle.vt_model.proofs.Valid.Backs.{IsByOpposite-link_back}
+use Rattle.vt_model.proofs.Valid.Dropped.{Comes}
+use Rattle.vt_model.proofs.Valid.LinkAsked.{FitsReference-asked}
+use Rattle.vt_model.proofs.Valid.WithLink.{Contains-with_link_cases}
 use Rattle.vt_store.specs.Inside.Displaced.{live_at, EndsLive, without_link, without_each, without_back, with_one, with_each}
 use Rattle.vt_store.proofs.Linking.Ends.{from_to}
 use Rattle.vt_store.proofs.Linking.Coming.{fits_comes, fits_oriented}

@@ -11,11 +11,11 @@ use Rattle.std.proofs.lemmas.List.Kept.{IsStrictlySortedBy-filter}
 use Rattle.std.proofs.lemmas.Map.Keys.{sorted_tail}
 use Rattle.vt_base.specs.declared.numbers.ObjId.{ObjId}
 use Rattle.vt_base.specs.declared.numbers.RefId.{RefId}
-use Rattle.vt_meta.specs.Model.{Model}
-use Rattle.vt_meta.specs.Linking.{link_order, is_link}
-use Rattle.vt_meta.specs.declared.model.Link.{Link}
-use Rattle.vt_meta.proofs.MemberLemmas.{Contains-head, Contains-behind, Contains-filter, Contains-from_filter, Contains-insert_key_cases, Contains-insert_key_new, length-filter_without}
-use Rattle.vt_meta.proofs.OrderedLemmas.{IsStrictlySortedBy-insert_key}
+use Rattle.vt_model.specs.Model.{Model}
+use Rattle.vt_model.specs.Linking.{link_order, is_link}
+use Rattle.vt_model.specs.declared.model.Link.{Link}
+use Rattle.vt_model.proofs.MemberLemmas.{Contains-head, Contains-behind, Contains-filter, Contains-from_filter, Contains-insert_key_cases, Contains-insert_key_new, length-filter_without}
+use Rattle.vt_model.proofs.OrderedLemmas.{IsStrictlySortedBy-insert_key}
 use Rattle.vt_store.specs.Inside.Displaced.{targets_of, sources_of, without_link, without_back, with_one, with_each, IsReturning}
 use Rattle.vt_store.proofs.RisingLemmas.{inserted_rise, Contains-inserted_old}
 use Rattle.vt_store.proofs.Linking.Lists.{filter-filter, filter-agree}

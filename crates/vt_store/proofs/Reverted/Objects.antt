@@ -13,12 +13,12 @@ use Rattle.std.proofs.lemmas.List.Sorted.{IsPermutation-reverse, IsPermutation-s
 use Rattle.std.proofs.lemmas.Map.Keys.{sorted_tail}
 use Rattle.vt_base.specs.declared.numbers.ObjId.{ObjId}
 use Rattle.vt_base.specs.declared.numbers.ClassId.{ClassId}
-use Rattle.vt_meta.specs.Model.{Model}
-use Rattle.vt_meta.specs.Deleting.{gone_order}
-use Rattle.vt_meta.specs.Valid.{object_order}
-use Rattle.vt_meta.specs.declared.model.Object.{Object}
-use Rattle.vt_meta.specs.declared.model.GoneObject.{GoneObject}
-use Rattle.vt_meta.proofs.MemberLemmas.{Contains-head, Contains-behind, Contains-find, find-some}
+use Rattle.vt_model.specs.Model.{Model}
+use Rattle.vt_model.specs.Deleting.{gone_order}
+use Rattle.vt_model.specs.Valid.{object_order}
+use Rattle.vt_model.specs.declared.model.Object.{Object}
+use Rattle.vt_model.specs.declared.model.GoneObject.{GoneObject}
+use Rattle.vt_model.proofs.MemberLemmas.{Contains-head, Contains-behind, Contains-find, find-some}
 use Rattle.vt_graph.specs.Asked.{gone_at}
 use Rattle.vt_graph.specs.Held.{Buried}
 use Rattle.vt_graph.specs.Passing.{with_raised}

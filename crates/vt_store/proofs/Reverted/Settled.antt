@@ -4,10 +4,10 @@ use Rattle.std.specs.Prelude.{◌<◌, ◌≤◌, ◌≢◌, ◌==◌, All, Cont
 use Rattle.std.proofs.lemmas.Bool.{eqb-true, eq-eqb, true≢false, both_ways, not-true}
 use Rattle.std.proofs.lemmas.List.Elements.{All-contains}
 use Rattle.vt_base.specs.declared.numbers.ObjId.{ObjId}
-use Rattle.vt_meta.specs.Model.{Model}
-use Rattle.vt_meta.specs.declared.model.Object.{Object}
-use Rattle.vt_meta.specs.declared.model.GoneObject.{GoneObject}
-use Rattle.vt_meta.proofs.MemberLemmas.{Contains-find, Contains-from_filter}
+use Rattle.vt_model.specs.Model.{Model}
+use Rattle.vt_model.specs.declared.model.Object.{Object}
+use Rattle.vt_model.specs.declared.model.GoneObject.{GoneObject}
+use Rattle.vt_model.proofs.MemberLemmas.{Contains-find, Contains-from_filter}
 use Rattle.vt_graph.specs.Held.{Held, Place, Buried}
 use Rattle.vt_graph.specs.Asked.{live_at, gone_at}
 use Rattle.vt_graph.specs.Room.{KeepsRoom, KeepsOthersRoom}

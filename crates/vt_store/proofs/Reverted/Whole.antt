@@ -7,16 +7,16 @@ use Rattle.std.specs.List.Sorted.{IsStrictlySortedBy}
 use Rattle.std.proofs.lemmas.Bool.{ne_eqb, not_from_false}
 use Rattle.std.proofs.lemmas.List.Elements.{All-contains}
 use Rattle.std.proofs.lemmas.List.Kept.{IsStrictlySortedBy-filter}
-use Rattle.vt_meta.specs.Metamodel.{Metamodel}
-use Rattle.vt_meta.specs.Model.{Model}
-use Rattle.vt_meta.specs.Assigning.{value_order}
-use Rattle.vt_meta.specs.Fits.{FitsAttribute}
-use Rattle.vt_meta.specs.Valid.{IsValid, object_order}
-use Rattle.vt_meta.specs.declared.model.Object.{Object}
-use Rattle.vt_meta.specs.declared.model.GoneObject.{GoneObject}
-use Rattle.vt_meta.specs.declared.model.AttributeValue.{AttributeValue}
-use Rattle.vt_meta.specs.declared.model.Link.{Link}
-use Rattle.vt_meta.proofs.MemberLemmas.{Contains-head, Contains-map}
+use Rattle.vt_model.specs.Metamodel.{Metamodel}
+use Rattle.vt_model.specs.Model.{Model}
+use Rattle.vt_model.specs.Assigning.{value_order}
+use Rattle.vt_model.specs.Fits.{FitsAttribute}
+use Rattle.vt_model.specs.Valid.{IsValid, object_order}
+use Rattle.vt_model.specs.declared.model.Object.{Object}
+use Rattle.vt_model.specs.declared.model.GoneObject.{GoneObject}
+use Rattle.vt_model.specs.declared.model.AttributeValue.{AttributeValue}
+use Rattle.vt_model.specs.declared.model.Link.{Link}
+use Rattle.vt_model.proofs.MemberLemmas.{Contains-head, Contains-map}
 use Rattle.vt_graph.specs.Held.{Buried}
 use Rattle.vt_store.specs.Edits.{ListChange, Edit, same_object, same_gone, same_value, same_link, without, net, edit_of, undone}
 use Rattle.vt_store.specs.Inside.Kept.{gone_of, objects_of, kept_edit, IsFresh, settled}

@@ -1,14 +1,14 @@
 -- What is tested before a link is made, moved or taken away.
 use Rattle.std.specs.Prelude.{ℕ, ◌||◌, List, [], ◌∷◌, Bool, not, is_none, Option, Result, false}
 use Rattle.std.specs.Option.{option_map_or}
-use Rattle.vt_meta.specs.Metamodel.{Metamodel}
-use Rattle.vt_meta.specs.Model.{Model, object_named, never_existed, was_deleted, feature_at}
-use Rattle.vt_meta.specs.Linking.{reference_of, is_target, linked}
-use Rattle.vt_meta.specs.Containing.{closes_cycle}
-use Rattle.vt_meta.specs.Effect.{first_of, unless_refused, contains_asked}
-use Rattle.vt_meta.specs.declared.model.Link.{Link}
-use Rattle.vt_meta.specs.declared.change.Refusal.{Refusal}
-use Rattle.vt_meta.specs.declared.change.Refusal.TheVariants.{UnknownObject, Gone, UnknownFeature, WrongKind, WrongTarget, ContainmentCycle}
+use Rattle.vt_model.specs.Metamodel.{Metamodel}
+use Rattle.vt_model.specs.Model.{Model, object_named, never_existed, was_deleted, feature_at}
+use Rattle.vt_model.specs.Linking.{reference_of, is_target, linked}
+use Rattle.vt_model.specs.Containing.{closes_cycle}
+use Rattle.vt_model.specs.Effect.{first_of, unless_refused, contains_asked}
+use Rattle.vt_model.specs.declared.model.Link.{Link}
+use Rattle.vt_model.specs.declared.change.Refusal.{Refusal}
+use Rattle.vt_model.specs.declared.change.Refusal.TheVariants.{UnknownObject, Gone, UnknownFeature, WrongKind, WrongTarget, ContainmentCycle}
 
 -- of a link by three names
 abbrev pub link_tests : Metamodel → Model → List ℕ → List ℕ → List ℕ → List (Bool × Refusal)

@@ -5,9 +5,9 @@ use Rattle.vt_base.specs.Order.{value_cmp}
 use Rattle.vt_base.specs.declared.numbers.ObjId.{ObjId}
 use Rattle.vt_base.specs.declared.numbers.AttrId.{AttrId}
 use Rattle.vt_base.specs.declared.value.Value.{Value}
-use Rattle.vt_meta.specs.Model.{Model}
-use Rattle.vt_meta.specs.Assigning.{without_value, with_value}
-use Rattle.vt_meta.specs.declared.model.AttributeValue.{AttributeValue}
+use Rattle.vt_model.specs.Model.{Model}
+use Rattle.vt_model.specs.Assigning.{without_value, with_value}
+use Rattle.vt_model.specs.declared.model.AttributeValue.{AttributeValue}
 use Rattle.vt_store.specs.Edits.{ListChange, Edit}
 use Rattle.vt_store.specs.Inside.Displaced.{no_change}
 

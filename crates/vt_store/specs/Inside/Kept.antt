@@ -1,14 +1,14 @@
 -- What is kept of a change, and what holds of it.
 use Rattle.std.specs.List.Sorted.{IsStrictlySortedBy}
 use Rattle.std.specs.Prelude.{◌≡◌, ℕ, ◌<◌, ◌≤◌, List, [], ◌∷◌, map, All, Contains, Option, None, Some, IsSome, IfSome, option_to_list}
-use Rattle.vt_meta.specs.Metamodel.{Metamodel}
-use Rattle.vt_meta.specs.Model.{Model}
-use Rattle.vt_meta.specs.declared.model.Object.{Object}
-use Rattle.vt_meta.specs.declared.model.GoneObject.{GoneObject}
-use Rattle.vt_meta.specs.declared.model.AttributeValue.{AttributeValue}
-use Rattle.vt_meta.specs.declared.model.Link.{Link}
-use Rattle.vt_meta.specs.Deleting.{gone_order}
-use Rattle.vt_meta.specs.Valid.{object_order}
+use Rattle.vt_model.specs.Metamodel.{Metamodel}
+use Rattle.vt_model.specs.Model.{Model}
+use Rattle.vt_model.specs.declared.model.Object.{Object}
+use Rattle.vt_model.specs.declared.model.GoneObject.{GoneObject}
+use Rattle.vt_model.specs.declared.model.AttributeValue.{AttributeValue}
+use Rattle.vt_model.specs.declared.model.Link.{Link}
+use Rattle.vt_model.specs.Deleting.{gone_order}
+use Rattle.vt_model.specs.Valid.{object_order}
 use Rattle.vt_graph.specs.Held.{Held, Place, Buried}
 use Rattle.vt_graph.specs.Asked.{live_at}
 use Rattle.vt_graph.specs.Room.{class_kept}

@@ -8,15 +8,15 @@ use Rattle.std.specs.Option.{option_to_list}
 use Rattle.vt_base.specs.declared.numbers.ObjId.{ObjId}
 use Rattle.vt_base.specs.declared.numbers.AttrId.{AttrId}
 use Rattle.vt_base.specs.declared.numbers.RefId.{RefId}
-use Rattle.vt_meta.specs.Metamodel.{Metamodel}
-use Rattle.vt_meta.specs.Model.{Model}
-use Rattle.vt_meta.specs.Assigning.{is_value_of, without_value}
-use Rattle.vt_meta.specs.Linking.{is_containment, is_link}
-use Rattle.vt_meta.specs.Containing.{holder, is_inside}
-use Rattle.vt_meta.specs.Deleting.{with_gone}
-use Rattle.vt_meta.specs.declared.model.Object.{Object}
-use Rattle.vt_meta.specs.declared.model.AttributeValue.{AttributeValue}
-use Rattle.vt_meta.specs.declared.model.Link.{Link}
+use Rattle.vt_model.specs.Metamodel.{Metamodel}
+use Rattle.vt_model.specs.Model.{Model}
+use Rattle.vt_model.specs.Assigning.{is_value_of, without_value}
+use Rattle.vt_model.specs.Linking.{is_containment, is_link}
+use Rattle.vt_model.specs.Containing.{holder, is_inside}
+use Rattle.vt_model.specs.Deleting.{with_gone}
+use Rattle.vt_model.specs.declared.model.Object.{Object}
+use Rattle.vt_model.specs.declared.model.AttributeValue.{AttributeValue}
+use Rattle.vt_model.specs.declared.model.Link.{Link}
 use Rattle.vt_slots.specs.Ends.{EndList, number_order}
 use Rattle.vt_slots.specs.declared.values.Held.{Held}
 

@@ -1,6 +1,6 @@
 -- The live objects that a change names.
 use Rattle.std.specs.Prelude.{◌≡◌, ℕ, List, Some}
-use Rattle.vt_meta.specs.Model.{Model, object_named}
+use Rattle.vt_model.specs.Model.{Model, object_named}
 use Rattle.vt_store.specs.declared.naming.Named.{Named}
 
 -- the name is that of a live object with this number and class

@@ -1,7 +1,7 @@
 -- What the test's steps promise each other: how a store goes forward, and comes back.
 use Rattle.std.specs.Prelude.{◌≡◌, ◌++◌, IsSome, Result, Ok, Err}
 use Rattle.vt_base.specs.declared.numbers.ObjId.{ObjId}
-use Rattle.vt_meta.specs.declared.change.Refusal.{Refusal}
+use Rattle.vt_model.specs.declared.change.Refusal.{Refusal}
 use Rattle.vt_graph.specs.Held.{Held}
 use Rattle.vt_graph.specs.Asked.{gone_at}
 use Rattle.vt_store.specs.Edits.{undone}

@@ -2,7 +2,7 @@
 use Rattle.std.specs.Prelude.{◌≡◌, ◌++◌, List, [], ◌∷◌, Contains, Some}
 use Rattle.vt_base.specs.declared.numbers.ObjId.{ObjId}
 use Rattle.vt_base.specs.declared.numbers.RefId.{RefId}
-use Rattle.vt_meta.specs.declared.model.Object.{Object}
+use Rattle.vt_model.specs.declared.model.Object.{Object}
 use Rattle.vt_slots.specs.declared.slot.Side.{Side}
 use Rattle.vt_graph.specs.Held.{Held, Place, Buried}
 use Rattle.vt_graph.specs.Room.{KeepsOthersRoom, class_kept, capacity_at, capacity_in}

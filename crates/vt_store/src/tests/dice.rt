@@ -3,7 +3,7 @@
 use super::scene::change;
 use std::alloc::Global;
 use vt_base::NoMemory;
-use vt_meta::Change;
+use vt_model::Change;
 
 const CHANGES: u32 = 300;
 
@@ -68,10 +68,7 @@ impl Dice {
 
     fn word(&mut self, words: &[&'static str]) -> &'static str {
         let roll = self.roll() as usize;
-        words
-            .get(roll % words.len().max(1))
-            .copied()
-            .unwrap_or("")
+        words.get(roll % words.len().max(1)).copied().unwrap_or("")
     }
 
     fn number(&mut self) -> u32 {

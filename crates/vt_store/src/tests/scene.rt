@@ -1,12 +1,13 @@
 // A small library, the changes that lines ask for, and what a store tells.
 ghost use Rattle.std.specs.Prelude.{IfOk};
-ghost use Rattle.vt_meta.specs.Sound.{IsSound};
+ghost use Rattle.vt_model.specs.Sound.{IsSound};
 
 use crate::{Change, Given, Store};
 use std::alloc::Global;
 use std::test::Fail;
 use vt_base::{AttrId, NoMemory, ObjId, RefId, Text, Value};
-use vt_meta::{Metamodel, read_meta};
+use vt_meta::read_meta;
+use vt_model::Metamodel;
 
 const LIBRARY: &str =
     r#"{"format":1,"enums":[{"name":"Genre","literals":["NOVEL","POEM","MAP"]}],"classes":[

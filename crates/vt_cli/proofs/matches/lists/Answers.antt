@@ -1,8 +1,8 @@
 use Rattle.std.proofs.Common.{◌≡◌, map, refl, sym, ap, subst}
-use Rattle.vt_meta.specs.Metamodel.{enum_names}
-use Rattle.vt_meta.specs.Model.{object_names}
+use Rattle.vt_model.specs.Metamodel.{enum_names}
+use Rattle.vt_model.specs.Model.{object_names}
 use Rattle.vt_graph.specs.Asked.{all_names}
-use Rattle.vt_meta.specs.Base.{counts_of}
+use Rattle.vt_model.specs.Base.{counts_of}
 use Rattle.vt_cli.specs.Lists.{match_lists}
 use Rattle.vt_cli.specs.Result.{done}
 use Rattle.vt_cli.specs.Inside.Printable.{AllTablesNamed}

@@ -1,5 +1,5 @@
 use Rattle.std.proofs.Common.{◌≡◌, ◌<◌, ◌+◌, [], ◌∷◌, ◌++◌, true, false, drop, length, subst, sym, rules}
-use Rattle.vt_meta.specs.Metamodel.{isa}
+use Rattle.vt_model.specs.Metamodel.{isa}
 use Rattle.vt_graph.specs.Inside.Planned.{above_from}
 use Rattle.vt_graph.proofs.PlanLemmas.{above_with, above_without}
 use Rattle.vt_graph.proofs.making.classes_above.Goals.{then-isa+in_ok-add, else-isa}

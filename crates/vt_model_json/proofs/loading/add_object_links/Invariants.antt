@@ -1,6 +1,6 @@
 use Rattle.std.proofs.Common.{◌≡◌, ◌++◌, drop, map}
 use Rattle.std.specs.Prelude.{flat_map}
-use Rattle.vt_meta.specs.declared.change.Change.TheVariants.{Link}
+use Rattle.vt_model.specs.declared.change.Change.TheVariants.{Link}
 use Rattle.vt_model_json.proofs.loading.add_object_links.Given as goal
 
 -- what is out, and what the rest gives, is what the whole gives

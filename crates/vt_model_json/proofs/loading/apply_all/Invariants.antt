@@ -1,5 +1,5 @@
 use Rattle.std.proofs.Common.{◌≡◌, drop}
-use Rattle.vt_meta.specs.Transaction.{changes_from}
+use Rattle.vt_model.specs.Transaction.{changes_from}
 use Rattle.vt_model_json.proofs.loading.apply_all.Given as goal
 
 -- the rest of the changes, on the model so far, ends as the whole does

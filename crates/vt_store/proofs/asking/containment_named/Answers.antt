@@ -1,9 +1,9 @@
 use Rattle.std.proofs.Common.{◌≡◌, true, subst, sym, rules}
 use Rattle.std.specs.Prelude.{Some}
-use Rattle.vt_meta.specs.Metamodel.{feature}
-use Rattle.vt_meta.specs.Linking.{reference_of, is_target}
-use Rattle.vt_meta.specs.Fits.{FitsReference}
-use Rattle.vt_meta.specs.declared.model.Object.{Object}
+use Rattle.vt_model.specs.Metamodel.{feature}
+use Rattle.vt_model.specs.Linking.{reference_of, is_target}
+use Rattle.vt_model.specs.Fits.{FitsReference}
+use Rattle.vt_model.specs.declared.model.Object.{Object}
 use Rattle.vt_store.proofs.Linking.Live.{fits_asked}
 use Rattle.vt_store.proofs.asking.containment_named.Goals as goal
 

@@ -1,5 +1,5 @@
 use Rattle.std.proofs.Common.{◌≡◌, ◌++◌, drop}
-use Rattle.vt_meta.specs.Creating.{defaults_from}
+use Rattle.vt_model.specs.Creating.{defaults_from}
 use Rattle.vt_store.proofs.creation.defaults.Given as goal
 
 -- what is out, and what the rest gives, is what the whole gives

@@ -1,5 +1,5 @@
 use Rattle.std.proofs.Common.{◌∙◌, ◌++◌, List, ap, append_assoc}
-use Rattle.vt_meta.specs.declared.model.Link.{Link}
+use Rattle.vt_model.specs.declared.model.Link.{Link}
 use Rattle.vt_slots.specs.Ends.{EndList}
 use Rattle.vt_store.specs.Inside.Levels.{leaving, coming, links_of}
 use Rattle.vt_store.proofs.Deleting.Sides.{AreLinksAt-sides}

@@ -1,5 +1,5 @@
 use Rattle.std.proofs.Common.{◌≡◌, ◌-◌, ap, ◌∙◌, arith}
-use Rattle.vt_meta.specs.Containing.{is_within}
+use Rattle.vt_model.specs.Containing.{is_within}
 use Rattle.vt_store.proofs.Linking.Enough.{within_all}
 use Rattle.vt_store.proofs.displaced.is_inside.Goals as goal
 

@@ -1,5 +1,5 @@
 use Rattle.std.proofs.Common.{◌≡◌, ◌-◌}
-use Rattle.vt_meta.specs.Containing.{is_within, is_inside}
+use Rattle.vt_model.specs.Containing.{is_within, is_inside}
 use Rattle.vt_store.proofs.displaced.is_inside.Given as goal
 
 abbrev pub invariant-loop : goal.invariant-loop

@@ -1,6 +1,6 @@
 use Rattle.std.proofs.Common.{◌≡◌, ◌∙◌, ap, sym}
 use Rattle.std.specs.Prelude.{Some}
-use Rattle.vt_meta.specs.Linking.{link_back}
+use Rattle.vt_model.specs.Linking.{link_back}
 use Rattle.vt_store.specs.Inside.Displaced.{without_link}
 use Rattle.vt_store.proofs.Linking.Unlinking.{unlinked_both}
 use Rattle.vt_store.proofs.relinking.drop_with_back.Goals as goal

@@ -1,6 +1,6 @@
 use Rattle.std.proofs.Common.{◌≡◌, ◌∙◌, [], ap, sym, false, refl}
 use Rattle.std.specs.Prelude.{filter}
-use Rattle.vt_meta.specs.Linking.{is_dropped, oriented, stands, with_link}
+use Rattle.vt_model.specs.Linking.{is_dropped, oriented, stands, with_link}
 use Rattle.vt_store.specs.Edits.{edit_of}
 use Rattle.vt_store.specs.Inside.Displaced.{links_edit}
 use Rattle.vt_store.proofs.Linking.LinkEdits.{edit_of_made}

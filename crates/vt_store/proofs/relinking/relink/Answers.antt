@@ -1,6 +1,6 @@
 use Rattle.std.proofs.Common.{◌≡◌, ◌∙◌, [], ap, ap₂}
 use Rattle.std.specs.Prelude.{filter}
-use Rattle.vt_meta.specs.Linking.{is_dropped, with_link}
+use Rattle.vt_model.specs.Linking.{is_dropped, with_link}
 use Rattle.vt_store.specs.Inside.Displaced.{links_edit, without_back}
 use Rattle.vt_store.proofs.Linking.Anew.{KeepsRoom-then, back_is_reverse, relinked_anew}
 use Rattle.vt_store.proofs.Linking.Live.{ends_live_fits}

@@ -1,5 +1,5 @@
 use Rattle.std.proofs.Common.{◌≡◌, ◌∙◌, [], ap, sym, true}
-use Rattle.vt_meta.specs.Linking.{stands, with_link}
+use Rattle.vt_model.specs.Linking.{stands, with_link}
 use Rattle.vt_store.specs.Edits.{edit_of}
 use Rattle.vt_store.specs.Inside.Displaced.{links_edit}
 use Rattle.vt_store.proofs.Linking.Unlinking.{edit_of_unmade}

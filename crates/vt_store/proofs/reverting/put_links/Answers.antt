@@ -1,5 +1,5 @@
 use Rattle.std.proofs.Common.{get_or, arith, ◌∙◌}
-use Rattle.vt_meta.specs.declared.model.Link.{Link}
+use Rattle.vt_model.specs.declared.model.Link.{Link}
 use Rattle.vt_slots.specs.declared.slot.Side.TheVariants.{Outgoing, Incoming}
 use Rattle.vt_store.specs.Inside.Displaced.{with_each}
 use Rattle.vt_store.proofs.Linking.Anew.{KeepsRoom-then}

@@ -2,7 +2,7 @@
 use Rattle.std.proofs.Common.{◌≡◌, ◌+◌, ◌<◌, ◌≤◌, List, length, map, false, sym, ap, subst, ◌∙◌, All}
 use Rattle.std.proofs.lemmas.Result.{on_err_weaker}
 use Rattle.vt_base.specs.declared.numbers.ClassId.{ClassId}
-use Rattle.vt_meta.specs.Creating.{is_taken, created}
+use Rattle.vt_model.specs.Creating.{is_taken, created}
 use Rattle.vt_slots.specs.Values.{AttributesRise}
 use Rattle.vt_slots.specs.Slots.{slot_named}
 use Rattle.vt_graph.specs.Held.{Held, Place}

@@ -1,7 +1,7 @@
 -- The rows of the values over the listing of the declaring class are those of the model.
 use Rattle.std.proofs.Common.{◌≡◌, ◌≤◌, ◌<◌, ◌+◌, length, sym, subst}
 use Rattle.std.specs.Prelude.{slice_get, None}
-use Rattle.vt_meta.proofs.Sound.Places.{slice_get-below}
+use Rattle.vt_model.proofs.SearchLemmas.{slice_get-below}
 use Rattle.vt_graph.specs.Held.{Held}
 use Rattle.vt_graph.proofs.HeldRowsLemmas.{value_rows_held, value_rows_ascend}
 use Rattle.vt_graph.proofs.graph.Graph.attr_rows.Goals as goal

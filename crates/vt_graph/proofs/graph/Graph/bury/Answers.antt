@@ -1,7 +1,7 @@
 -- The object's slot has a body, which goes; what is left is spare.
 use Rattle.std.proofs.Common.{◌≡◌, List, sym, ap, subst, ◌∙◌, Some, IsSome}
 use Rattle.std.specs.Option.{option_copied}
-use Rattle.vt_meta.specs.Metamodel.{Metamodel}
+use Rattle.vt_model.specs.Metamodel.{Metamodel}
 use Rattle.vt_slots.specs.Slots.{slot_at}
 use Rattle.vt_slots.specs.declared.slot.Side.TheVariants.{Outgoing, Incoming}
 use Rattle.vt_graph.specs.Held.{Held, Place}

@@ -1,6 +1,6 @@
 -- The model afterwards is that of the slots with the value at its place.
 use Rattle.std.proofs.Common.{sym, ap, subst, ◌∙◌}
-use Rattle.vt_meta.specs.Assigning.{with_default_value}
+use Rattle.vt_model.specs.Assigning.{with_default_value}
 use Rattle.vt_graph.specs.Held.{Held}
 use Rattle.vt_graph.specs.Asked.{value_at}
 use Rattle.vt_graph.specs.Having.{HasAttribute}

@@ -1,7 +1,7 @@
 -- The object's slot has no body, and gets the spare one.
 use Rattle.std.proofs.Common.{◌≡◌, List, sym, ap, subst, ◌∙◌, Some}
 use Rattle.std.specs.Prelude.{Contains}
-use Rattle.vt_meta.specs.Metamodel.{Metamodel}
+use Rattle.vt_model.specs.Metamodel.{Metamodel}
 use Rattle.vt_slots.specs.declared.slot.Side.TheVariants.{Outgoing, Incoming}
 use Rattle.vt_graph.specs.Held.{Held, Place, Buried}
 use Rattle.vt_graph.specs.Room.{KeepsRoom, capacity_at, capacity_in, class_kept}

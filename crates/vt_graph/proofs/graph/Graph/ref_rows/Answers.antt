@@ -1,7 +1,7 @@
 -- The rows of the links over the listing of the declaring class are those of the model.
 use Rattle.std.proofs.Common.{◌≡◌, ◌≤◌, ◌<◌, ◌+◌, length, sym, subst}
 use Rattle.std.specs.Prelude.{slice_get, None}
-use Rattle.vt_meta.proofs.Sound.Places.{slice_get-below}
+use Rattle.vt_model.proofs.SearchLemmas.{slice_get-below}
 use Rattle.vt_graph.specs.Held.{Held}
 use Rattle.vt_graph.proofs.HeldRowsLemmas.{link_rows_held, link_rows_ascend}
 use Rattle.vt_graph.proofs.graph.Graph.ref_rows.Goals as goal

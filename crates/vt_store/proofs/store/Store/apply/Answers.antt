@@ -1,6 +1,6 @@
 use Rattle.std.proofs.Common.{◌≡◌, Err, sym, subst}
-use Rattle.vt_meta.specs.Effect.{effect}
-use Rattle.vt_meta.specs.declared.change.Change.{Change}
+use Rattle.vt_model.specs.Effect.{effect}
+use Rattle.vt_model.specs.declared.change.Change.{Change}
 use Rattle.vt_store.proofs.store.Store.apply.Goals as goal
 
 -- the change is that one

@@ -1,8 +1,8 @@
 -- The object that is named is live, and without it the model is valid.
 use Rattle.std.proofs.Common.{subst}
 use Rattle.std.specs.Prelude.{IsSome}
-use Rattle.vt_meta.specs.Deleting.{deleted}
-use Rattle.vt_meta.specs.Valid.{IsValid}
+use Rattle.vt_model.specs.Deleting.{deleted}
+use Rattle.vt_model.specs.Valid.{IsValid}
 use Rattle.vt_graph.specs.Held.{Held}
 use Rattle.vt_graph.specs.Asked.{live_at}
 use Rattle.vt_store.proofs.Deleting.Fitting.{named_live}

@@ -1,7 +1,7 @@
 use Rattle.std.proofs.Common.{◌≡◌, ◌++◌, subst, sym}
 use Rattle.std.specs.Prelude.{Ok, IfOk, OnErr}
-use Rattle.vt_meta.specs.Model.{Model}
-use Rattle.vt_meta.specs.Valid.{IsValid}
+use Rattle.vt_model.specs.Model.{Model}
+use Rattle.vt_model.specs.Valid.{IsValid}
 use Rattle.vt_graph.specs.Held.{Held}
 use Rattle.vt_store.specs.Undoing.{KeepsRoomOf}
 use Rattle.vt_store.specs.Inside.Asking.{link_effect}

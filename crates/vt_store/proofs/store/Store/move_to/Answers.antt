@@ -1,8 +1,8 @@
 use Rattle.std.proofs.Common.{◌≡◌, ◌∙◌, subst}
 use Rattle.std.specs.Prelude.{Ok}
-use Rattle.vt_meta.specs.Model.{Model}
-use Rattle.vt_meta.specs.Valid.{IsValid}
-use Rattle.vt_meta.specs.declared.change.Change.TheVariants as change
+use Rattle.vt_model.specs.Model.{Model}
+use Rattle.vt_model.specs.Valid.{IsValid}
+use Rattle.vt_model.specs.declared.change.Change.TheVariants as change
 use Rattle.vt_graph.specs.Held.{Held}
 use Rattle.vt_store.specs.Inside.Asking.{link_effect}
 use Rattle.vt_store.proofs.StoreLemmas.{valid_made}

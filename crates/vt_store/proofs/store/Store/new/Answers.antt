@@ -1,6 +1,6 @@
 use Rattle.std.proofs.Common.{sym, subst}
-use Rattle.vt_meta.specs.Sound.{IsSound}
-use Rattle.vt_meta.specs.Valid.{IsValid}
+use Rattle.vt_model.specs.Sound.{IsSound}
+use Rattle.vt_model.specs.Valid.{IsValid}
 use Rattle.vt_graph.specs.Held.{Held}
 use Rattle.vt_store.proofs.StoreLemmas.{valid_empty}
 use Rattle.vt_store.proofs.store.Store.new.Goals as goal

@@ -1,7 +1,7 @@
 use Rattle.std.proofs.Common.{subst}
-use Rattle.vt_meta.specs.Linking.{unlinked}
-use Rattle.vt_meta.specs.Valid.{IsValid}
-use Rattle.vt_meta.specs.declared.change.Change.TheVariants as change
+use Rattle.vt_model.specs.Linking.{unlinked}
+use Rattle.vt_model.specs.Valid.{IsValid}
+use Rattle.vt_model.specs.declared.change.Change.TheVariants as change
 use Rattle.vt_graph.specs.Held.{Held}
 use Rattle.vt_store.proofs.StoreLemmas.{valid_made}
 use Rattle.vt_store.proofs.LinkageLemmas.{unlink_made}

@@ -1,7 +1,7 @@
 use Rattle.std.proofs.Common.{◌≡◌, ◌++◌, subst, sym}
 use Rattle.std.specs.Prelude.{IfOk, OnErr}
-use Rattle.vt_meta.specs.Linking.{unlinked}
-use Rattle.vt_meta.specs.Valid.{IsValid}
+use Rattle.vt_model.specs.Linking.{unlinked}
+use Rattle.vt_model.specs.Valid.{IsValid}
 use Rattle.vt_graph.specs.Held.{Held}
 use Rattle.vt_store.specs.Undoing.{KeepsRoomOf}
 use Rattle.vt_store.proofs.LinkageLemmas.{valid_result, fits_result, room_result, kept_result, unmade_result}
