@@ -1,6 +1,8 @@
 -- The rows of a model whose lists rise ascend.
-use Rattle.std.proofs.Common.{◌≡◌, ℕ, List, [], ◌∷◌, map, refl, cond, Bool, true, false, arith}
-use Rattle.std.specs.Prelude.{filter, ◌==◌}
+use Rattle.std.proofs.Common.{◌≡◌, ℕ, List, [], ◌∷◌, length, map, get_or, refl, cond, Bool, true, false, arith}
+use Rattle.std.specs.Prelude.{All, filter, ◌==◌}
+use Rattle.std.proofs.lemmas.List.Elements.{All-map}
+use Rattle.vt_base.specs.declared.value.Value.{Value}
 use Rattle.std.specs.List.{AllByRecursion}
 use Rattle.std.specs.List.Sorted.{IsStrictlySortedBy}
 use Rattle.std.specs.Ordering.{nat_cmp, ordering_then}
@@ -93,3 +95,18 @@ pub Ascends-reference_rows : (g : Model) (r : RefId) → IsStrictlySortedBy link
 Ascends-reference_rows g r rises =
     IsStrictlySortedBy-chosen link_order tuple_cmp (λ (link : Link). link.reference.0 == r.0) (λ (link : Link). Obj link.source ∷ Obj link.target ∷ [])
     (link_row r) g.links rises
+
+-- ---- columns
+
+-- each row has its columns
+columns : {X : Type 0} (n : ℕ) (row : X → List Value) → ((x : X) → length (row x) ≡ n) → (xs : List X) → All (λ r. length r ≡ n) (map row xs)
+columns n row each xs = All-map (λ r. length r ≡ n) row xs (λ k d within. each (get_or xs k d))
+
+pub columns-class_rows : (meta : Metamodel) (g : Model) (c : ClassId) → All (λ row. length row ≡ 1) (class_rows meta g c)
+columns-class_rows meta g c = columns 1 (λ (o : Object). Obj o.number ∷ []) (λ o. refl) (filter (λ (o : Object). isa meta o.class c) g.live)
+
+pub columns-attribute_rows : (g : Model) (a : AttrId) → All (λ row. length row ≡ 2) (attribute_rows g a)
+columns-attribute_rows g a = columns 2 (λ (t : AttributeValue). Obj t.object ∷ t.value ∷ []) (λ t. refl) (filter (λ (t : AttributeValue). t.attribute.0 == a.0) g.values)
+
+pub columns-reference_rows : (g : Model) (r : RefId) → All (λ row. length row ≡ 2) (reference_rows g r)
+columns-reference_rows g r = columns 2 (λ (link : Link). Obj link.source ∷ Obj link.target ∷ []) (λ link. refl) (filter (λ (link : Link). link.reference.0 == r.0) g.links)

@@ -11,6 +11,7 @@ use Rattle.std.proofs.lemmas.Map.Steps.{length-le_from_distinct_below}
 use Rattle.std.proofs.lemmas.Option.{slice_get_within, get_or_from_slice_get}
 use Rattle.vt_base.specs.declared.numbers.ClassId.{ClassId}
 use Rattle.vt_model.specs.Metamodel.{Metamodel, supers_of, IsPath, Isa, is_within, isa}
+use Rattle.vt_model.specs.Sound.{IsSound}
 
 pub same_number : {c d : ClassId} → c.0 ≡ d.0 → c ≡ d
 same_number e = ap (λ n. record { 0 = n }) e
@@ -120,3 +121,25 @@ module _ (supers : List (List ClassId)) where
 
 pub isa_exact : (meta : Metamodel) (c d : ClassId) → All (All (λ e. e.0 < length meta.classes)) meta.supers → (isa meta c d ≡ true) ↔ Isa meta c d
 isa_exact meta c d there = is_within_exact meta.supers (length meta.classes) there c d
+
+-- ---- the classes of a sound metamodel
+
+IsPath-append : (supers : List (List ClassId)) (path more : List ClassId) (c d e : ClassId) → IsPath supers c path d → IsPath supers d more e → (whole : List ClassId) × IsPath supers c whole e
+IsPath-append supers [] more c d e is then = (more, subst (λ x. IsPath supers x more e) (sym is) then)
+IsPath-append supers (x ∷ path) more c d e is then = let rest = IsPath-append supers path more x d e is.1 then in (x ∷ rest.0, (is.0, rest.1))
+
+module _ (meta : Metamodel) (sound : IsSound meta) where
+  -- the test is a path
+  pub isa-path : (c d : ClassId) → (isa meta c d ≡ true) ↔ Isa meta c d
+  isa-path c d = isa_exact meta c d sound.supers
+
+  -- a class is itself
+  pub isa-itself : (c : ClassId) → isa meta c c ≡ true
+  isa-itself c = (isa-path c c).1 ([], refl)
+
+  -- what is above a class above is above
+  pub isa-trans : (c d e : ClassId) → isa meta c d ≡ true → isa meta d e ≡ true → isa meta c e ≡ true
+  isa-trans c d e first second =
+      let p = (isa-path c d).0 first in
+      let q = (isa-path d e).0 second in
+      (isa-path c e).1 (IsPath-append meta.supers p.0 q.0 c d e p.1 q.1)

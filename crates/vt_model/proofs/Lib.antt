@@ -10,4 +10,5 @@ pub mod AboveLemmas
 pub mod TableLemmas
 pub mod FeatureLemmas
 pub mod Valid
+pub mod KeptLemmas
 pub mod BaseLemmas

@@ -11,6 +11,7 @@ use Rattle.vt_model.specs.Metamodel.{Metamodel, isa}
 use Rattle.vt_model.specs.Model.{Model}
 use Rattle.vt_model.specs.Creating.{default_value}
 use Rattle.vt_model.specs.Assigning.{is_literal, is_value_of}
+use Rattle.vt_model.specs.Storable.{IsStorable}
 use Rattle.vt_model.specs.declared.metamodel.AttrInfo.{AttrInfo}
 use Rattle.vt_model.specs.declared.metamodel.RefInfo.{RefInfo}
 use Rattle.vt_model.specs.declared.model.Object.{Object}
@@ -41,12 +42,13 @@ pub record IsLiveOf (meta : Metamodel) (live : List Object) (o : ObjId) (c : Cla
   pub is_live : IsLive live o own
   pub below : isa meta own c ≡ true
 
--- the object is live and has the attribute, and the value has the attribute's kind
+-- the object is live and has the attribute, and the value has the attribute's kind and can be held
 pub record FitsAttribute (meta : Metamodel) (live : List Object) (t : AttributeValue) : Type 0 where
   pub info : AttrInfo
   pub declared : slice_get meta.attributes t.attribute.0 ≡ Some info
   pub owner : IsLiveOf meta live t.object info.class
   pub kind : HasKind meta info.kind t.value
+  pub storable : IsStorable t.value
 
 -- both ends are live, the source has the reference, and the target is of the class that it leads to
 pub record FitsReference (meta : Metamodel) (live : List Object) (link : Link) : Type 0 where

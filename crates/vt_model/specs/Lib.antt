@@ -10,8 +10,10 @@ pub mod Containing
 pub mod Deleting
 pub mod Effect
 pub mod Transaction
+pub mod Storable
 pub mod Fits
 pub mod Valid
+pub mod Kept
 pub mod Base
 -- what the reader of documents is told
 pub mod Places

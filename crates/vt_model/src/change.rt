@@ -1,5 +1,6 @@
 // Changes to a model, and why one is refused.
 ghost use Rattle.std.specs.Prelude.{◌≡◌};
+ghost use Rattle.vt_model.specs.Storable.{IsGivable, GivesStorable};
 
 use vt_base::Text;
 
@@ -23,6 +24,21 @@ impl Given {
             Given::Int(n) => Given::Int(*n),
             Given::Text(text) => Given::Text(text.share()),
             Given::Literal(e, l) => Given::Literal(*e, *l),
+        }
+    }
+
+    /// A number that is given has 64 bits, and a text is UTF-8.
+    pub fn is_givable(&self)
+        ensures { IsGivable self.now }
+    {
+        match self {
+            Given::Int(n) => {
+                let _n = *n;
+            }
+            Given::Text(text) => {
+                let _text = text.as_str();
+            }
+            Given::Bool(_) | Given::Literal(_, _) => {}
         }
     }
 }
@@ -70,6 +86,17 @@ pub enum Change {
         parent: Text,
         reference: Text,
     },
+}
+
+impl Change {
+    /// So is what a change gives.
+    pub fn gives_storable(&self)
+        ensures { GivesStorable self.now }
+    {
+        if let Change::Set { value, .. } = self {
+            value.is_givable();
+        }
+    }
 }
 
 /// Why a change is refused: the first of these that applies, in this order.

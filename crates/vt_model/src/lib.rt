@@ -30,6 +30,6 @@ pub use change::{Change, Given, Refusal};
 pub use model::{AttributeValue, GoneObject, Link, Object};
 // What holds of every metamodel, and of every model that changes make.
 pub use laws::{
-    base_ascends, effect_keeps_valid, empty_is_valid, inside_is_a_path, isa_is_a_path,
-    transaction_keeps_valid,
+    base_ascends, base_has_columns, effect_keeps_names, effect_keeps_valid, empty_is_valid,
+    inside_is_a_path, isa_is_a_path, transaction_keeps_names, transaction_keeps_valid,
 };

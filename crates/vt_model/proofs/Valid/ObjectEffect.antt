@@ -17,6 +17,7 @@ use Rattle.vt_model.specs.Deleting.{deleted}
 use Rattle.vt_model.specs.Effect.{link_asked, refusal, changed, effect}
 use Rattle.vt_model.specs.Fits.{HasKind, FitsAttribute}
 use Rattle.vt_model.specs.Sound.{IsAttributeKind, IsSound}
+use Rattle.vt_model.specs.Storable.{IsStorable, IsGivable, GivesStorable}
 use Rattle.vt_model.specs.declared.model.Object.{Object}
 use Rattle.vt_model.specs.declared.model.Link.{Link}
 use Rattle.vt_model.specs.declared.change.Given.{Given}
@@ -24,7 +25,7 @@ use Rattle.vt_model.specs.declared.change.Change.{Change}
 use Rattle.vt_model.specs.declared.change.Change.TheVariants.{Create, Delete, Set, Unset, Link as LinkChange, Unlink, Move}
 use Rattle.vt_model.proofs.Valid.Sides.{ObjectSide}
 use Rattle.vt_model.proofs.Valid.Found.{IsLive-object_named, IsSomeAnd-class_named, HasAttribute, HasAttribute-feature, kind_asked-declared}
-use Rattle.vt_model.proofs.Valid.Kinds.{HasKind-default_value, HasKind-value_given}
+use Rattle.vt_model.proofs.Valid.Kinds.{HasKind-default_value, HasKind-value_given, IsStorable-default_value, IsStorable-value_given}
 use Rattle.vt_model.proofs.Valid.ObjectSide.{ObjectSide-created, ObjectSide-deleted, ObjectSide-without_value, ObjectSide-with_value, ObjectSide-linked, ObjectSide-unlinked}
 use Rattle.vt_model.proofs.Valid.Passing.{PassesCreate-refusal, has_kind-refusal, refusal-effect}
 
@@ -38,9 +39,9 @@ HasAttribute-named meta g name attr o a from found =
 
 -- a value of the kind that is asked for fits
 FitsAttribute-named : (meta : Metamodel) (g : Model) (name attr : List ℕ) (o : Object) (a : AttrId) (k : Kind) (v : Value)
-    → object_named g name ≡ Some o → attribute_of (feature_at meta g name attr) ≡ Some a → kind_asked meta (feature_at meta g name attr) ≡ Some k → HasKind meta k v
+    → object_named g name ≡ Some o → attribute_of (feature_at meta g name attr) ≡ Some a → kind_asked meta (feature_at meta g name attr) ≡ Some k → HasKind meta k v → IsStorable v
     → FitsAttribute meta g.live (record { object = o.number; attribute = a; value = v })
-FitsAttribute-named meta g name attr o a k v from found asked has =
+FitsAttribute-named meta g name attr o a k v from found asked has storable =
     let it = HasAttribute-named meta g name attr o a from found in
     let is : it.info.kind ≡ k = kind_asked-declared meta (feature_at meta g name attr) a it.info k found it.declared asked in
     record {
@@ -48,12 +49,13 @@ FitsAttribute-named meta g name attr o a k v from found asked has =
       declared = it.declared;
       owner = record { own = o.class; is_live = IsLive-object_named g name o from; below = it.below };
       kind = subst (λ k. HasKind meta k v) (sym is) has;
+      storable = storable;
     }
 
 -- ---- changes that aren't refused
 
 -- a new number is the next or a greater one
-new_number-above : (g : Model) (number : Option ℕ) → g.next ≤ new_number g number
+pub new_number-above : (g : Model) (number : Option ℕ) → g.next ≤ new_number g number
 new_number-above g None = omega arith
 new_number-above g (Some n) = omega arith
 
@@ -79,9 +81,9 @@ module _ (meta : Metamodel) (g : Model) (sound : IsSound meta) (side : ObjectSid
       by (Some o) = ObjectSide-deleted meta g side o.number
 
   -- a value that passes its tests is set
-  ObjectSide-set : (name attr : List ℕ) (given : Given) → refusal meta g (Set name attr given) ≡ None
+  ObjectSide-set : (name attr : List ℕ) (given : Given) → IsGivable given → refusal meta g (Set name attr given) ≡ None
       → ObjectSide meta (unwrap_or (changed meta g (Set name attr given)) g)
-  ObjectSide-set name attr given passes =
+  ObjectSide-set name attr given can passes =
       by (object_named g name) (attribute_of (feature_at meta g name attr)) (option_and_then (value_given meta given) (kind_asked meta (feature_at meta g name attr))) refl refl refl
     where
       fits : (o : Object) (a : AttrId) (v : Value) → object_named g name ≡ Some o → attribute_of (feature_at meta g name attr) ≡ Some a
@@ -90,7 +92,8 @@ module _ (meta : Metamodel) (g : Model) (sound : IsSound meta) (side : ObjectSid
       fits o a v from found gives =
           option_and_then_some (value_given meta given) (kind_asked meta (feature_at meta g name attr)) v gives (λ k asked value.
           FitsAttribute-named meta g name attr o a k v from found asked
-          (HasKind-value_given meta given k v (subst (λ s. option_map_or (has_kind meta given) s false ≡ true) asked (has_kind-refusal meta g name attr given passes)) value))
+          (HasKind-value_given meta given k v (subst (λ s. option_map_or (has_kind meta given) s false ≡ true) asked (has_kind-refusal meta g name attr given passes)) value)
+          (IsStorable-value_given meta given k v can value))
 
       by : (r : Option Object) (s : Option AttrId) (w : Option Value)
           → object_named g name ≡ r → attribute_of (feature_at meta g name attr) ≡ s → option_and_then (value_given meta given) (kind_asked meta (feature_at meta g name attr)) ≡ w
@@ -115,7 +118,8 @@ module _ (meta : Metamodel) (g : Model) (sound : IsSound meta) (side : ObjectSid
           let it = HasAttribute-named meta g name attr o a from found in
           let is : it.info.kind ≡ k = kind_asked-declared meta (feature_at meta g name attr) a it.info k found it.declared asked in
           ObjectSide-with_value meta g side o.number a v (FitsAttribute-named meta g name attr o a k v from found asked
-          (HasKind-default_value meta k v (subst (IsAttributeKind meta) is (sound.kinds a it.info it.declared)) default))
+          (HasKind-default_value meta k v (subst (IsAttributeKind meta) is (sound.kinds a it.info it.declared)) default)
+          (IsStorable-default_value k v default))
 
       by : (r : Option Object) (s : Option AttrId) (t : Option Kind)
           → object_named g name ≡ r → attribute_of (feature_at meta g name attr) ≡ s → kind_asked meta (feature_at meta g name attr) ≡ t
@@ -131,17 +135,17 @@ module _ (meta : Metamodel) (g : Model) (sound : IsSound meta) (side : ObjectSid
   ObjectSide-by_link change keeps (Some link) = keeps link
 
   -- each kind of change
-  pub ObjectSide-changed : (change : Change) → refusal meta g change ≡ None → ObjectSide meta (unwrap_or (changed meta g change) g)
-  ObjectSide-changed (Create name class number) passes = ObjectSide-create name class number passes
-  ObjectSide-changed (Delete name) passes = ObjectSide-delete name
-  ObjectSide-changed (Set name attr given) passes = ObjectSide-set name attr given passes
-  ObjectSide-changed (Unset name attr) passes = ObjectSide-unset name attr
-  ObjectSide-changed (LinkChange name reference target) passes = ObjectSide-by_link (linked meta g) (ObjectSide-linked meta g side) (link_asked meta g name reference target)
-  ObjectSide-changed (Unlink name reference target) passes = ObjectSide-by_link (unlinked meta g) (ObjectSide-unlinked meta g side) (link_asked meta g name reference target)
-  ObjectSide-changed (Move child parent reference) passes = ObjectSide-by_link (linked meta g) (ObjectSide-linked meta g side) (link_asked meta g parent reference child)
+  pub ObjectSide-changed : (change : Change) → GivesStorable change → refusal meta g change ≡ None → ObjectSide meta (unwrap_or (changed meta g change) g)
+  ObjectSide-changed (Create name class number) gives passes = ObjectSide-create name class number passes
+  ObjectSide-changed (Delete name) gives passes = ObjectSide-delete name
+  ObjectSide-changed (Set name attr given) gives passes = ObjectSide-set name attr given gives passes
+  ObjectSide-changed (Unset name attr) gives passes = ObjectSide-unset name attr
+  ObjectSide-changed (LinkChange name reference target) gives passes = ObjectSide-by_link (linked meta g) (ObjectSide-linked meta g side) (link_asked meta g name reference target)
+  ObjectSide-changed (Unlink name reference target) gives passes = ObjectSide-by_link (unlinked meta g) (ObjectSide-unlinked meta g side) (link_asked meta g name reference target)
+  ObjectSide-changed (Move child parent reference) gives passes = ObjectSide-by_link (linked meta g) (ObjectSide-linked meta g side) (link_asked meta g parent reference child)
 
 -- a change that isn't refused keeps the objects' side
-pub ObjectSide-effect : (meta : Metamodel) (g after : Model) (change : Change) → IsSound meta → ObjectSide meta g → effect meta g change ≡ Ok after → ObjectSide meta after
-ObjectSide-effect meta g after change sound side e =
+pub ObjectSide-effect : (meta : Metamodel) (g after : Model) (change : Change) → IsSound meta → ObjectSide meta g → GivesStorable change → effect meta g change ≡ Ok after → ObjectSide meta after
+ObjectSide-effect meta g after change sound side gives e =
     let done = refusal-effect meta g after change e in
-    subst (ObjectSide meta) done.1 (ObjectSide-changed meta g sound side change done.0)
+    subst (ObjectSide meta) done.1 (ObjectSide-changed meta g sound side change gives done.0)

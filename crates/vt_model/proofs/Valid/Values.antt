@@ -24,7 +24,7 @@ use Rattle.vt_model.proofs.OrderedLemmas.{IsStrictlySortedBy-append}
 use Rattle.vt_model.proofs.Valid.Sides.{ObjectSide}
 use Rattle.vt_model.proofs.Valid.Counts.{count_by-append, count_by-none, count_by-filter, All-filter_passes, Contains-filter}
 use Rattle.vt_model.proofs.Valid.Objects.{without}
-use Rattle.vt_model.proofs.Valid.Kinds.{HasKind-default_value}
+use Rattle.vt_model.proofs.Valid.Kinds.{HasKind-default_value, IsStorable-default_value}
 use Rattle.vt_model.proofs.Valid.Defaults.{value_order-object, is_value_of-other_object, All-defaults_from, defaults-object, defaults-rise, count_by-defaults}
 
 -- ---- live objects
@@ -79,7 +79,7 @@ module _ (meta : Metamodel) (g : Model) (side : ObjectSide meta g) (name : List 
   values_fit-created sound =
       All-append (FitsAttribute meta (g.live ++ object ∷ [])) g.values defaults
       (All-weaker (FitsAttribute meta g.live) (FitsAttribute meta (g.live ++ object ∷ []))
-      (λ t h. record { info = h.info; declared = h.declared; owner = IsLiveOf-append meta g.live (object ∷ []) t.object h.info.class h.owner; kind = h.kind }) g.values side.values_fit)
+      (λ t h. record { info = h.info; declared = h.declared; owner = IsLiveOf-append meta g.live (object ∷ []) t.object h.info.class h.owner; kind = h.kind; storable = h.storable }) g.values side.values_fit)
       (All-defaults_from meta c object.number (FitsAttribute meta (g.live ++ object ∷ [])) 0 meta.attributes
       (λ k m info w at there class default. fits k m info w (place k m at) there class default))
     where
@@ -95,6 +95,7 @@ module _ (meta : Metamodel) (g : Model) (side : ObjectSide meta g) (name : List 
             declared = declared;
             owner = record { own = c; is_live = record { name = name; there = Contains-push g.live object }; below = class };
             kind = HasKind-default_value meta info.kind w (sound.kinds (record { 0 = m }) info declared) default;
+            storable = IsStorable-default_value info.kind w default;
           }
 
   -- each object has its values, and the new one has its defaults
@@ -136,7 +137,7 @@ module _ (meta : Metamodel) (g : Model) (side : ObjectSide meta g) (inside : Obj
   pub values_fit-without : All (FitsAttribute meta (without g inside links).live) (without g inside links).values
   values_fit-without =
       All-weaker (λ t. FitsAttribute meta g.live t × (not (inside t.object) ≡ true)) (FitsAttribute meta (without g inside links).live)
-      (λ t h. record { info = h.0.info; declared = h.0.declared; owner = IsLiveOf-filter meta g.live (λ o. not (inside o)) t.object h.0.info.class h.1 h.0.owner; kind = h.0.kind })
+      (λ t h. record { info = h.0.info; declared = h.0.declared; owner = IsLiveOf-filter meta g.live (λ o. not (inside o)) t.object h.0.info.class h.1 h.0.owner; kind = h.0.kind; storable = h.0.storable })
       (without g inside links).values (All-filter_passes (λ t. not (inside t.object)) (FitsAttribute meta g.live) g.values side.values_fit)
 
   -- who is left keeps its values
