@@ -1,5 +1,5 @@
 -- Net deltas: they fit the rows before, and applied to these they give the rows after.
-use Rattle.std.proofs.Common.{◌≡◌, ◌<◌, ℕ, length, Bool, true, false, not, ◌&&◌, ◌||◌, List, [], ◌∷◌, Option, Some, None, refl, sym, ap, subst, ◌∙◌, arith}
+use Rattle.std.proofs.Common.{◌≡◌, ◌<◌, ℕ, zero, suc, length, Bool, true, false, not, ◌&&◌, ◌||◌, List, [], ◌∷◌, Option, Some, None, refl, sym, ap, subst, ◌∙◌, arith}
 use Rattle.std.specs.Prelude.{filter, fold, slice_get}
 use Rattle.std.specs.BTreeSet.{insert_key}
 use Rattle.std.specs.Ordering.{eq_by_cmp, is_eq, match_ordering}
@@ -12,7 +12,10 @@ use Rattle.std.proofs.lemmas.Map.Made.{is_member-filter}
 use Rattle.vt_facts.proofs.OrderedLemmas.{IsStrictlySortedBy-insert_key}
 use Rattle.vt_base.specs.Order.{tuple_cmp}
 use Rattle.vt_base.specs.Rows.{Ascends, has_row}
-use Rattle.vt_base.specs.Deltas.{Change, without, net, applied, Fits}
+use Rattle.vt_base.specs.Base.{BaseRows}
+use Rattle.vt_base.specs.Deltas.{Change, without, net, applied, applied_at, applied_base, change_of, Fits, AreEach, HasCounts, AllAscend, IsNet, FitsBase, SameRows}
+use Rattle.vt_base.specs.declared.delta.Delta.{Delta}
+use Rattle.vt_base.specs.declared.delta.BaseDelta.{BaseDelta}
 use Rattle.vt_base.specs.Inside.OrderLaws.{IsTotalOrder-tuple_cmp}
 use Rattle.vt_base.specs.declared.value.Value.{Value}
 use Rattle.vt_base.proofs.OrderLemmas.{exact-tuple_cmp, eq_by_cmp-Decides}
@@ -121,3 +124,41 @@ without-itself rows = none-filter (λ row. not (has_row rows row)) rows (λ row 
 
 pub net-itself : (rows : List (List Value)) → net rows rows ≡ record { added = []; removed = [] }
 net-itself rows = λ i. record { added = without-itself rows i; removed = without-itself rows i }
+
+-- ---- all rows of a base
+
+-- a delta that is net fits
+Fits-is_net : (before after : List (List Value)) (delta : Delta) → change_of delta ≡ net before after → Fits before (change_of delta)
+Fits-is_net before after delta is = subst (Fits before) (sym is) (Fits-net before after)
+
+pub FitsBase-net : (before after : BaseRows) (difference : BaseDelta) → IsNet before after difference → FitsBase before difference
+FitsBase-net before after difference is = record {
+  counts = is.counts;
+  classes = λ n delta at. Fits-is_net (before.of_class (record { 0 = n })) (after.of_class (record { 0 = n })) delta (is.classes n delta at);
+  attributes = λ n delta at. Fits-is_net (before.of_attribute (record { 0 = n })) (after.of_attribute (record { 0 = n })) delta (is.attributes n delta at);
+  references = λ n delta at. Fits-is_net (before.of_reference (record { 0 = n })) (after.of_reference (record { 0 = n })) delta (is.references n delta at);
+}
+
+-- a list of deltas that are net, at a number that it has
+module _ (deltas : List Delta) (rows later : List (List Value)) (n : ℕ) (rise : Ascends rows) (rise_too : Ascends later)
+    (each : (delta : Delta) → slice_get deltas n ≡ Some delta → change_of delta ≡ net rows later) where
+  applied_there : (found : Option Delta) → slice_get deltas n ≡ found → (found ≡ None → ⊥) → applied_at found rows ≡ later
+  applied_there None at there = absurd (there refl)
+  applied_there (Some delta) at there = ap (λ change. applied change rows) (each delta at) ∙ applied-net rows later rise rise_too
+
+-- below the length there is a delta
+there_below : (deltas : List Delta) (n : ℕ) → n < length deltas → slice_get deltas n ≡ None → ⊥
+there_below [] n below none = absurd (omega (arith, below))
+there_below (d ∷ deltas) zero below none = cc
+there_below (d ∷ deltas) (suc n) below none = there_below deltas n (omega (arith, below)) none
+
+pub SameRows-net : (before after : BaseRows) (difference : BaseDelta) → AllAscend before → AllAscend after → IsNet before after difference
+    → SameRows (applied_base difference before) after
+SameRows-net before after difference rise rise_too is = record {
+  classes = λ c below. applied_there difference.classes (before.of_class c) (after.of_class c) c.0 (rise.classes c) (rise_too.classes c) (is.classes c.0)
+      (slice_get difference.classes c.0) refl (there_below difference.classes c.0 (subst (λ m. c.0 < m) (sym is.counts.classes) below));
+  attributes = λ a below. applied_there difference.attributes (before.of_attribute a) (after.of_attribute a) a.0 (rise.attributes a) (rise_too.attributes a) (is.attributes a.0)
+      (slice_get difference.attributes a.0) refl (there_below difference.attributes a.0 (subst (λ m. a.0 < m) (sym is.counts.attributes) below));
+  references = λ r below. applied_there difference.references (before.of_reference r) (after.of_reference r) r.0 (rise.references r) (rise_too.references r) (is.references r.0)
+      (slice_get difference.references r.0) refl (there_below difference.references r.0 (subst (λ m. r.0 < m) (sym is.counts.references) below));
+}

@@ -5,7 +5,9 @@ ghost use Rattle.std.specs.Cmp.{IsTotalOrder};
 ghost use Rattle.std.specs.List.{Contains};
 ghost use Rattle.vt_base.specs.Order.{value_cmp, tuple_cmp};
 ghost use Rattle.vt_base.specs.Rows.{Ascends, has_row, IsSetOf};
-ghost use Rattle.vt_base.specs.Deltas.{net, applied, Fits};
+ghost use Rattle.vt_base.specs.Base.{BaseRows};
+ghost use Rattle.vt_base.specs.Deltas.{net, applied, Fits, AllAscend, IsNet, FitsBase, SameRows, applied_base};
+ghost use Rattle.vt_base.specs.declared.delta.BaseDelta.{BaseDelta};
 ghost use Rattle.vt_base.specs.declared.value.Value.{Value};
 
 /// Values are totally ordered, and values that are equal in order are equal.
@@ -40,4 +42,13 @@ pub fn a_net_delta_leads_on()
     ensures leads { (before after : List (List Value)) → Ascends before → Ascends after →
         applied (net before after) before ≡ after }
     ensures empty { (rows : List (List Value)) → net rows rows ≡ record { added = []; removed = [] } }
+{}
+
+/// So is it with all rows of a base: deltas that are the net ones fit the rows before, and applied to
+/// these they give the rows after.
+pub fn net_deltas_lead_on()
+    ensures fits { (before after : BaseRows) (difference : BaseDelta) →
+        IsNet before after difference → FitsBase before difference }
+    ensures leads { (before after : BaseRows) (difference : BaseDelta) → AllAscend before → AllAscend after →
+        IsNet before after difference → SameRows (applied_base difference before) after }
 {}
