@@ -1,5 +1,6 @@
 pub mod OrderLemmas
 pub mod RowsLemmas
 pub mod SetLemmas
+pub mod DeltaLemmas
 pub mod WrittenLemmas
 pub mod FurtherLemmas

@@ -4,6 +4,7 @@ pub mod Order
 pub mod Rows
 pub mod Aggregate
 pub mod Base
+pub mod Deltas
 pub mod Names
 pub mod Written
 -- for the crate alone

@@ -4,6 +4,7 @@ ghost use Rattle.std.specs.Option.{option_copied};
 ghost use Rattle.std.specs.Result.{is_ok};
 ghost use Rattle.vt_base.specs.Rows.{Ascends, has_row, IsSetOf};
 
+use crate::plain::copy_all;
 use crate::{NoMemory, Tuple};
 use std::alloc::Global;
 use std::marker::Model;
@@ -53,6 +54,14 @@ impl Rows {
         ensures { result.items ≡ rows.items }
     {
         Rows { rows }
+    }
+
+    /// The same rows again. The texts in them are shared with the copy.
+    pub fn copy(&self, alloc: Global) -> Result<Rows, NoMemory>
+        ensures { IfOk result (λ copy. copy.items ≡ self.now.items) }
+    {
+        let rows = copy_all(alloc, self.as_slice())?.into_vec();
+        Ok(Rows::from_ascending(rows))
     }
 
     /// Whether the tuple is one of the rows.

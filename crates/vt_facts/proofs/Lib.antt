@@ -1,0 +1,13 @@
+pub mod BoolLemmas
+pub mod NumberLemmas
+pub mod OptionLemmas
+pub mod FirstLemmas
+pub mod MapLemmas
+pub mod MemberLemmas
+pub mod PositionLemmas
+pub mod CountLemmas
+pub mod OrderedLemmas
+pub mod RisingLemmas
+pub mod ChosenLemmas
+pub mod LineLemmas
+pub mod NameLemmas

@@ -1,0 +1,5 @@
+-- for a reader of the contracts, from the top
+pub mod Names
+pub mod Parts
+pub mod Firsts
+pub mod Lines
