@@ -1,5 +1,4 @@
 -- what the contracts say, in reading order
-pub mod Room
 pub mod Order
 pub mod Rows
 pub mod Aggregate
