@@ -1,5 +1,4 @@
 -- for a reader of the contracts, from the top
-pub mod Room
 pub mod Order
 pub mod Rows
 pub mod Aggregate

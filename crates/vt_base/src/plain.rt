@@ -1,54 +1,11 @@
-// Values that can be copied where memory is there.
+// Copies of the words of this crate.
 ghost use Rattle.std.specs.Prelude.{◌≡◌, IfOk};
 
 use crate::{
-    AggKind, AttrId, ClassId, Kind, List, NoMemory, ObjId, PatternId, Policy, RefId, RuleId, State,
-    Text, Tuple, Value,
+    AggKind, AttrId, ClassId, Kind, List, NoMemory, ObjId, PatternId, Plain, Policy, RefId, RuleId,
+    State, Text, Tuple, Value,
 };
 use std::alloc::Global;
-
-/// Plain data: a value that can be copied, where there is memory for the copy. The texts in it are
-/// shared with the copy.
-pub trait Plain: Drop {
-    fn copy(&self, alloc: Global) -> Result<Self, NoMemory>
-        ensures { IfOk result (λ copy. copy ≡ self.now) };
-}
-
-impl Plain for bool {
-    fn copy(&self, _alloc: Global) -> Result<bool, NoMemory> {
-        Ok(*self)
-    }
-}
-
-impl Plain for u8 {
-    fn copy(&self, _alloc: Global) -> Result<u8, NoMemory> {
-        Ok(*self)
-    }
-}
-
-impl Plain for u16 {
-    fn copy(&self, _alloc: Global) -> Result<u16, NoMemory> {
-        Ok(*self)
-    }
-}
-
-impl Plain for u32 {
-    fn copy(&self, _alloc: Global) -> Result<u32, NoMemory> {
-        Ok(*self)
-    }
-}
-
-impl Plain for u64 {
-    fn copy(&self, _alloc: Global) -> Result<u64, NoMemory> {
-        Ok(*self)
-    }
-}
-
-impl Plain for i64 {
-    fn copy(&self, _alloc: Global) -> Result<i64, NoMemory> {
-        Ok(*self)
-    }
-}
 
 impl Plain for ObjId {
     fn copy(&self, _alloc: Global) -> Result<ObjId, NoMemory> {
@@ -125,21 +82,6 @@ impl Plain for Value {
 impl Plain for Tuple {
     fn copy(&self, alloc: Global) -> Result<Tuple, NoMemory> {
         Tuple::from_slice(alloc, self.as_slice())
-    }
-}
-
-impl<A: Plain, B: Plain> Plain for (A, B) {
-    fn copy(&self, alloc: Global) -> Result<(A, B), NoMemory> {
-        Ok((self.0.copy(alloc)?, self.1.copy(alloc)?))
-    }
-}
-
-impl<A: Plain> Plain for Option<A> {
-    fn copy(&self, alloc: Global) -> Result<Option<A>, NoMemory> {
-        match self {
-            Some(a) => Ok(Some(a.copy(alloc)?)),
-            None => Ok(None),
-        }
     }
 }
 

@@ -1,0 +1,6 @@
+-- No public clause cites a module below.
+pub mod Coding
+pub mod Places
+pub mod Pieces
+pub mod Held
+pub mod Seen

@@ -1,0 +1,102 @@
+-- A list in pieces.
+use Rattle.std.specs.Prelude.{◌≡◌, ℕ, suc, ◌<◌, ◌≤◌, ◌+◌, ◌-◌, ◌*◌, ◌^◌, max, Bool, true, false, List, [], ◌∷◌, ◌++◌, length, take, drop, insert, remove, slice_index_or, slice_set, ◌⊎◌}
+use Rattle.std.specs.declared.cmp.Ordering.{Ordering}
+use Rattle.std.specs.declared.cmp.Ordering.TheVariants.{Less}
+use Rattle.std.specs.List.{AllByRecursion}
+use Rattle.std.specs.List.Sorted.{IsStrictlySortedBy}
+use Rattle.std.specs.Ordering.{is_lt}
+use Rattle.vt_sorted.specs.Ascending.{has, with_item, without_item, items_from}
+
+-- the pieces end to end
+abbrev pub joined : {T : Type 0} → List (List T) → List T
+joined [] = []
+joined (c ∷ cs) = c ++ joined cs
+
+-- whether there is a first item, and q is below it
+abbrev pub begins_above : {T : Type 0} → (T → T → Ordering) → List T → T → Bool
+begins_above R [] q = false
+begins_above R (x ∷ xs) q = is_lt (R q x)
+
+-- how many items stand above the half of their piece
+abbrev pub above_half : {T : Type 0} → List (List T) → ℕ
+above_half [] = 0
+above_half (c ∷ cs) = (length c - 32) + above_half cs
+
+-- how many items so many free pieces take beside these: one each, or as many as fill them
+abbrev pub room : {T : Type 0} → List (List T) → ℕ → ℕ
+room cs free = max free (free * 32 - above_half cs)
+
+-- no piece but the first is empty
+abbrev pub IsFilled : {T : Type 0} → List (List T) → Type 0
+IsFilled [] = Unit {0}
+IsFilled (c ∷ cs) = AllByRecursion (λ d. 1 ≤ length d) cs
+
+-- each of xs is below q
+abbrev pub AllBelow : {T : Type 0} → (T → T → Ordering) → List T → T → Type 0
+AllBelow R xs q = AllByRecursion (λ x. R x q ≡ Less) xs
+
+-- q is below each of xs
+abbrev pub AllAbove : {T : Type 0} → (T → T → Ordering) → List T → T → Type 0
+AllAbove R xs q = AllByRecursion (λ x. R q x ≡ Less) xs
+
+-- what is below q and what is above it: q has its place in piece j
+pub record IsPlace {T : Type 0} (R : T → T → Ordering) (cs : List (List T)) (q : T) (j : ℕ) : Type 0 where
+  pub in_range : j < length cs
+  pub below : AllBelow R (joined (take j cs)) q
+  pub above : AllAbove R (joined (drop (suc j) cs)) q
+
+-- blocks with room for all pieces, used or free
+pub record HaveSpace (used used_room free free_room : ℕ) : Type 0 where
+  pub place_used : used + free ≤ used_room
+  pub place_free : used + free ≤ free_room
+
+-- what the fields of a large set keep: its pieces, and how many pieces are free
+pub record IsLarge {T : Type 0} (R : T → T → Ordering) (cs : List (List T)) (used used_room free free_room count : ℕ) : Type 0 where
+  pub ascends : IsStrictlySortedBy R (joined cs)
+  pub some : 0 < used
+  pub filled : IsFilled cs
+  pub space : HaveSpace used used_room free free_room
+  pub counted : count ≡ length (joined cs)
+  pub limit : count ≤ 2 ^ 63
+
+-- an item was put into piece j, which was full and became two
+pub record IsPutBeside {T : Type 0} (old new : List (List T)) (j at : ℕ) (item : T) : Type 0 where
+  pub lower : List T
+  pub upper : List T
+  pub items : new ≡ take j old ++ (lower ∷ (upper ∷ drop (suc j) old))
+  pub whole : lower ++ upper ≡ insert (slice_index_or old j []) at item
+  pub lower_filled : 32 ≤ length lower
+  pub upper_filled : 32 ≤ length upper
+  pub sum : length lower + length upper ≡ 65
+
+-- the pieces with k and the next one end to end
+abbrev pub merged : {T : Type 0} → List (List T) → ℕ → List (List T)
+merged cs k = take k cs ++ ((slice_index_or cs k [] ++ slice_index_or cs (suc k) []) ∷ drop (suc (suc k)) cs)
+
+-- q stands at a place of piece j
+pub record StandsIn {T : Type 0} (R : T → T → Ordering) (cs : List (List T)) (q : T) (j at : ℕ) : Type 0 where
+  pub in_range : j < length cs
+  pub place : at < length (slice_index_or cs j [])
+  pub stands : has R (joined cs) q ≡ true
+  pub added : with_item R (joined cs) q ≡ joined cs
+  pub taken : joined (slice_set cs j (remove (slice_index_or cs j []) at)) ≡ without_item R (joined cs) q
+  pub shorter : length (joined (slice_set cs j (remove (slice_index_or cs j []) at))) + 1 ≡ length (joined cs)
+  pub ascends : IsStrictlySortedBy R (joined (slice_set cs j (remove (slice_index_or cs j []) at)))
+  pub from : items_from R (joined cs) q ≡ drop at (slice_index_or cs j []) ++ joined (drop (suc j) cs)
+
+-- q doesn't stand, and would go to a place of piece j
+pub record GoesIn {T : Type 0} (R : T → T → Ordering) (cs : List (List T)) (q : T) (j at : ℕ) : Type 0 where
+  pub in_range : j < length cs
+  pub place : at ≤ length (slice_index_or cs j [])
+  pub absent : has R (joined cs) q ≡ false
+  pub added : joined (slice_set cs j (insert (slice_index_or cs j []) at q)) ≡ with_item R (joined cs) q
+  pub longer : length (joined (slice_set cs j (insert (slice_index_or cs j []) at q))) ≡ length (joined cs) + 1
+  pub ascends : IsStrictlySortedBy R (joined (slice_set cs j (insert (slice_index_or cs j []) at q)))
+  pub taken : without_item R (joined cs) q ≡ joined cs
+  pub from : items_from R (joined cs) q ≡ drop at (slice_index_or cs j []) ++ joined (drop (suc j) cs)
+
+-- piece j may be joined to a neighbour: k is the earlier of the two
+pub record IsMergePlace {T : Type 0} (cs : List (List T)) (j k : ℕ) : Type 0 where
+  pub in_range : suc k < length cs
+  pub fits : length (slice_index_or cs k []) + length (slice_index_or cs (suc k) []) ≤ 64
+  pub near : (k ≡ j) ⊎ (suc k ≡ j)

@@ -1,0 +1,240 @@
+// The large form: chunks in ascending order, and free ones.
+ghost use Rattle.std.specs.Prelude.{◌≡◌, ◌+◌, ◌<◌, ◌≤◌, [], ◌++◌, length, drop, suc, slice_get, slice_index_or, IfOk, IfErr, OnOk, OnErr, IsOk, not, vec_len, vec_capacity};
+ghost use Rattle.std.specs.Option.{option_copied};
+ghost use Rattle.std.specs.List.{insert, remove};
+ghost use Rattle.std.specs.List.Sorted.{IsStrictlySortedBy};
+ghost use Rattle.vt_sorted.specs.Ascending.{has, with_item, without_item, items_from};
+ghost use Rattle.vt_sorted.specs.Inside.Pieces.{joined, IsFilled, IsPlace, StandsIn, GoesIn};
+
+use crate::chunk::{CHUNK, Chunk, HALF};
+use crate::pieces::{fill, make_room, put, take};
+use crate::{NoMemory, Walk};
+use std::alloc::Global;
+use std::marker::Model;
+
+// More items than this are in no memory.
+const LIMIT: usize = 1 << 63;
+
+/// Chunks in ascending order, of which only the first may be empty, and free ones.
+#[derive(Debug, Drop)]
+pub struct Large<T: Ord> {
+    used: Vec<Chunk<T>>,
+    free: Vec<Chunk<T>>,
+    count: usize,
+    alloc: Global,
+}
+
+impl<T: Ord> Model for Large<T> {
+    ghost use Rattle.std.specs.Prelude.{vec_len, vec_capacity, min, ◌-◌, ◌^◌};
+    ghost use Rattle.vt_sorted.specs.Room.{Room};
+    ghost use Rattle.vt_sorted.specs.Inside.Coding.{room_code};
+    ghost use Rattle.vt_sorted.specs.Inside.Pieces.{joined, room, IsLarge};
+
+    ghost Value = { Room T };
+
+    ghost coded = { room_code T.code };
+
+    ghost view = { λ s. record { items = joined s.used.items; spare = min (room s.used.items (vec_len s.free)) (2 ^ 63 - s.count) } };
+
+    ghost invariant = { λ s. IsLarge T.cmp s.used.items (vec_len s.used) (vec_capacity s.used) (vec_len s.free) (vec_capacity s.free) s.count };
+}
+
+impl<T: Ord> Large<T> {
+    /// Whether the item stands in the set.
+    pub fn contains(&self, item: &T) -> bool
+        ensures { result ≡ has T.cmp self.now.items item.now }
+    {
+        locate(&self.used, item).is_ok()
+    }
+
+    pub fn len(&self) -> usize
+        ensures { result ≡ length self.now.items }
+    {
+        self.count
+    }
+
+    /// The items in order.
+    pub fn walk(&self) -> Walk<'_, T>
+        ensures items { result ≡ self.now.items }
+        ensures ascends { IsStrictlySortedBy T.cmp self.now.items }
+    {
+        Walk::over(&[], &self.used)
+    }
+
+    /// The items from a given one on, in order.
+    pub fn walk_from(&self, item: &T) -> Walk<'_, T>
+        ensures { result ≡ items_from T.cmp self.now.items item.now }
+    {
+        match locate(&self.used, item) {
+            Ok((j, at)) => walk_at(&self.used, j, at),
+            Err((j, at)) => walk_at(&self.used, j, at),
+        }
+    }
+
+    /// The item at a place, counted from 0. `None` is of a place past the end alone.
+    pub fn get(&self, i: usize) -> Option<&T>
+        ensures { option_copied result ≡ slice_get self.now.items i }
+    {
+        item_at(&self.used, i)
+    }
+}
+
+impl<T: Ord + Drop> Large<T> {
+    /// The set of the items of a vector that ascend.
+    pub fn from_ascending(alloc: Global, items: Vec<T>) -> Result<Large<T>, NoMemory>
+        requires ascends { IsStrictlySortedBy T.cmp items.items }
+        ensures items { IfOk result (λ set. set.items ≡ items.items) }
+    {
+        let count = items.len();
+        if count > LIMIT {
+            return Err(NoMemory);
+        }
+        let used = fill(alloc, items)?;
+        let free = Vec::with_capacity(alloc, used.len())?;
+        Ok(Large {
+            used,
+            free,
+            count,
+            alloc,
+        })
+    }
+
+    /// A set of the items of a vector that fill at most a chunk, with room for so many more. They
+    /// leave the vector.
+    pub fn from_few(alloc: Global, items: &mut Vec<T>, more: usize) -> Result<Large<T>, NoMemory>
+        requires ascends { IsStrictlySortedBy T.cmp items.old.items }
+        requires fits { vec_len items.old ≤ 64 }
+        ensures items { IfOk result (λ set. set.items ≡ items.old.items) }
+        ensures room { IfOk result (λ set. more ≤ set.spare) }
+        ensures unchanged { OnErr result ((items.new.items ≡ items.old.items) × (vec_capacity items.old ≤ vec_capacity items.new)) }
+    {
+        let mut used = Vec::new(alloc);
+        let mut free = Vec::new(alloc);
+        let count = items.len();
+        if more > LIMIT - count {
+            return Err(NoMemory);
+        }
+        let room = more.checked_add(HALF).ok_or(NoMemory)?;
+        make_room(alloc, &mut used, &mut free, room)?;
+        let chunks = free.len().checked_add(1).ok_or(NoMemory)?;
+        used.reserve(chunks)?;
+        free.reserve(1)?;
+        items.reserve(CHUNK - items.len())?;
+        let all = std::mem::replace(items, Vec::new(alloc));
+        used.push(Chunk::from_vec(all)).unwrap();
+        Ok(Large {
+            used,
+            free,
+            count,
+            alloc,
+        })
+    }
+
+    /// Adds the item. It answers false where it stood, and hands it back for want of memory.
+    pub fn insert(&mut self, item: T) -> Result<bool, T>
+        ensures items { OnOk result (self.new.items ≡ with_item T.cmp self.old.items item) }
+        ensures added { IfOk result (λ added. added ≡ not (has T.cmp self.old.items item)) }
+        ensures unchanged { OnErr result (self.new.items ≡ self.old.items) }
+        ensures comes_back { IfErr result (λ back. back ≡ item) }
+        ensures succeeds { 1 ≤ self.old.spare → IsOk result }
+        ensures room { self.old.spare ≤ self.new.spare + 1 }
+    {
+        match locate(&self.used, &item) {
+            Ok(_) => Ok(false),
+            Err(_) if self.count >= LIMIT => Err(item),
+            Err((j, at)) => match put(self.alloc, &mut self.used, &mut self.free, j, at, item) {
+                Ok(()) => {
+                    self.count += 1;
+                    Ok(true)
+                }
+                Err(back) => Err(back),
+            },
+        }
+    }
+
+    /// Takes the item out, and answers whether it stood.
+    pub fn remove(&mut self, item: &T) -> bool
+        ensures items { self.new.items ≡ without_item T.cmp self.old.items item.now }
+        ensures stood { result ≡ has T.cmp self.old.items item.now }
+        ensures room { self.old.spare ≤ self.new.spare }
+    {
+        match locate(&self.used, item) {
+            Ok((j, at)) => {
+                take(&mut self.used, &mut self.free, j, at);
+                self.count -= 1;
+                true
+            }
+            Err(_) => false,
+        }
+    }
+
+    /// Makes room for so many more items.
+    pub fn reserve(&mut self, more: usize) -> Result<(), NoMemory>
+        ensures items { self.new.items ≡ self.old.items }
+        ensures room { OnOk result (more ≤ self.new.spare) }
+        ensures grows { self.old.spare ≤ self.new.spare }
+    {
+        if more > LIMIT - self.count {
+            return Err(NoMemory);
+        }
+        make_room(self.alloc, &mut self.used, &mut self.free, more)
+    }
+}
+
+// The item at a place of all.
+fn item_at<T>(chunks: &[Chunk<T>], i: usize) -> Option<&T>
+    ensures { option_copied result ≡ slice_get (joined chunks.now) i }
+{
+    let mut left = i;
+    for chunk in chunks {
+        if left < chunk.len() {
+            return chunk.get(left);
+        }
+        left -= chunk.len();
+    }
+    None
+}
+
+// The items from a place of chunk j on.
+fn walk_at<T>(chunks: &[Chunk<T>], j: usize, at: usize) -> Walk<'_, T>
+    requires in_range { j < length chunks.now }
+    requires place { at ≤ length (slice_index_or chunks.now j []) }
+    ensures { result ≡ drop at (slice_index_or chunks.now j []) ++ joined (drop (suc j) chunks.now) }
+{
+    Walk::over(&chunks[j].as_slice()[at..], &chunks[j + 1..])
+}
+
+// In which chunk the item stands and where, or else would.
+fn locate<T: Ord>(chunks: &[Chunk<T>], item: &T) -> Result<(usize, usize), (usize, usize)>
+    requires some { 0 < length chunks.now }
+    requires ascends { IsStrictlySortedBy T.cmp (joined chunks.now) }
+    requires filled { IsFilled chunks.now }
+    ensures stands { IfOk result (λ p. StandsIn T.cmp chunks.now item.now p.0 p.1) }
+    ensures absent { IfErr result (λ p. GoesIn T.cmp chunks.now item.now p.0 p.1) }
+{
+    let j = place(chunks, item);
+    match chunks[j].find(item) {
+        Ok(at) => Ok((j, at)),
+        Err(at) => Err((j, at)),
+    }
+}
+
+// The chunk in which an item has its place.
+fn place<T: Ord>(chunks: &[Chunk<T>], item: &T) -> usize
+    requires some { 0 < length chunks.now }
+    requires ascends { IsStrictlySortedBy T.cmp (joined chunks.now) }
+    requires filled { IsFilled chunks.now }
+    ensures { IsPlace T.cmp chunks.now item.now result }
+{
+    let mut low = 0;
+    let mut high = chunks.len();
+    while low < high {
+        let middle = low + (high - low) / 2;
+        if chunks[middle].begins_above(item) {
+            high = middle;
+        } else {
+            low = middle + 1;
+        }
+    }
+    low.saturating_sub(1)
+}

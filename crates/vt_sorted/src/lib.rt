@@ -1,0 +1,24 @@
+//! An ordered set with room: it takes so many items with no memory, and without fail.
+//!
+//! It stands on no other crate. Read `specs/Room.antt`, then `specs/Ascending.antt`.
+#![tactic(auto)]
+
+// Memory: what wanting it answers, and what can be copied.
+mod memory;
+mod plain;
+// A block of items, and many of them.
+mod chunk;
+mod large;
+mod pieces;
+mod walk;
+// The set.
+mod sorted;
+
+// Memory: what wanting it answers, and what can be copied.
+pub use memory::NoMemory;
+pub use plain::Plain;
+// A block of items, and many of them.
+pub use large::Large;
+pub use walk::Walk;
+// The set.
+pub use sorted::Sorted;
