@@ -2,17 +2,37 @@
 ghost use Rattle.std.specs.Prelude.{◌≡◌, Some, None, IfOk, IsErrOf};
 ghost use Rattle.serde_json.specs.View.{view};
 ghost use Rattle.vt_json.specs.Json.{json_of};
+ghost use Rattle.vt_json.specs.declared.json.JsonFault.TheVariants.{NoMemory};
 
 use serde_json::Value;
-use std::alloc::Global;
+use std::alloc::{AllocError, AllocFailed, Global};
+use thiserror::Error;
 
 /// Why bytes give no JSON value.
-#[derive(Clone, Copy, Debug, PartialEq, Eq)]
+#[derive(Clone, Copy, Debug, PartialEq, Eq, Error)]
 pub enum JsonFault {
-    /// The bytes are no JSON text, as `{` or bytes that aren't UTF-8.
+    /// The bytes are no JSON text, as `[1,]` or bytes that aren't UTF-8.
+    #[error("the bytes are no JSON text, as `[1,]` is none, or bytes that aren't UTF-8")]
     NotJson,
-    /// Memory ran out.
+    /// Memory ran out. It may stand for any other answer.
+    #[error("memory ran out before the JSON value was made")]
     NoMemory,
+}
+
+impl From<AllocError> for JsonFault {
+    ghost from_gives = { λ _ e. e ≡ NoMemory };
+
+    fn from(_: AllocError) -> JsonFault {
+        JsonFault::NoMemory
+    }
+}
+
+impl<T: Drop> From<AllocFailed<T>> for JsonFault {
+    ghost from_gives = { λ _ e. e ≡ NoMemory };
+
+    fn from(_: AllocFailed<T>) -> JsonFault {
+        JsonFault::NoMemory
+    }
 }
 
 /// The JSON value of some bytes.

@@ -9,16 +9,35 @@ ghost use Rattle.vt_json.specs.declared.shape.ShapeFault.TheVariants.{NoMemory};
 ghost use Rattle.vt_json.specs.Shape.{Reads, whole_number, integer, items_in, list_of, keys_of, is_listed, has_only};
 
 use serde_json::{Map, Value};
-use std::alloc::Global;
+use std::alloc::{AllocError, AllocFailed, Global};
+use thiserror::Error;
 use vt_base::{List, Text};
 
 /// Why a JSON value doesn't give what was asked for.
-#[derive(Clone, Copy, Debug, PartialEq, Eq)]
+#[derive(Clone, Copy, Debug, PartialEq, Eq, Error)]
 pub enum ShapeFault {
-    /// It has another form, as a number in place of a text.
+    /// It has another form, as `1` where a text is asked for, or it has no key that is needed.
+    #[error("the JSON value has another form, as `1` where a text is asked for, or lacks a key")]
     BadShape,
-    /// Memory ran out.
+    /// Memory ran out. It may stand for any other answer.
+    #[error("memory ran out before the JSON value was read")]
     NoMemory,
+}
+
+impl From<AllocError> for ShapeFault {
+    ghost from_gives = { λ _ e. e ≡ NoMemory };
+
+    fn from(_: AllocError) -> ShapeFault {
+        ShapeFault::NoMemory
+    }
+}
+
+impl<T: Drop> From<AllocFailed<T>> for ShapeFault {
+    ghost from_gives = { λ _ e. e ≡ NoMemory };
+
+    fn from(_: AllocFailed<T>) -> ShapeFault {
+        ShapeFault::NoMemory
+    }
 }
 
 impl From<vt_base::NoMemory> for ShapeFault {
