@@ -18,7 +18,7 @@ use Rattle.vt_model.specs.declared.metamodel.Feature.{Feature}
 use Rattle.vt_model.specs.declared.metamodel.Feature.TheVariants.{Attr}
 use Rattle.vt_model.specs.declared.model.Object.{Object}
 use Rattle.vt_model.specs.declared.model.AttributeValue.{AttributeValue}
-use Rattle.vt_model.proofs.MemberLemmas.{Contains-head, Contains-behind, Contains-nil, Contains-from_filter}
+use Rattle.vt_facts.proofs.MemberLemmas.{Contains-head, Contains-behind, Contains-nil, Contains-from_filter}
 use Rattle.vt_model.proofs.Valid.Containment.{same_object}
 use Rattle.vt_model_json.specs.Dump.{attribute_name, value_data, attribute_members, values_of}
 use Rattle.vt_dump_law.proofs.Lists.{same_if_equal}

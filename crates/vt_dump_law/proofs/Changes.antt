@@ -18,7 +18,7 @@ use Rattle.vt_model.specs.declared.model.AttributeValue.{AttributeValue}
 use Rattle.vt_model.specs.declared.model.Link.{Link}
 use Rattle.vt_model.specs.declared.change.Change.{Change}
 use Rattle.vt_model.specs.declared.change.Change.TheVariants as change
-use Rattle.vt_model.proofs.MemberLemmas.{Contains-nil, Contains-filter, Contains-from_filter}
+use Rattle.vt_facts.proofs.MemberLemmas.{Contains-nil, Contains-filter, Contains-from_filter}
 use Rattle.vt_model.proofs.Valid.{IsValid-effect}
 use Rattle.vt_model.proofs.Valid.Empty.{IsValid-empty_model}
 use Rattle.vt_model_json.specs.Loading.{creations, assignment, assignments, linkings, changes_of}

@@ -20,7 +20,7 @@ use Rattle.vt_model.specs.declared.metamodel.EnumInfo.{EnumInfo}
 use Rattle.vt_model.specs.declared.metamodel.ClassInfo.{ClassInfo}
 use Rattle.vt_model.specs.declared.metamodel.AttrInfo.{AttrInfo}
 use Rattle.vt_model.specs.declared.metamodel.RefInfo.{RefInfo}
-use Rattle.vt_model.proofs.MemberLemmas.{Contains-head, Contains-behind}
+use Rattle.vt_facts.proofs.MemberLemmas.{Contains-head, Contains-behind}
 use Rattle.vt_model_json.specs.Dump.{class_name, attribute_name, literal_name, value_data, texts}
 use Rattle.vt_dump_law.specs.Writable.{IsWritableValue}
 use Rattle.vt_dump_law.proofs.Links.{reference_name}

@@ -12,7 +12,7 @@ use Rattle.vt_model.specs.Metamodel.{Metamodel}
 use Rattle.vt_model.specs.Model.{Model}
 use Rattle.vt_model.specs.Valid.{IsValid}
 use Rattle.vt_model.specs.declared.model.Object.{Object}
-use Rattle.vt_model.proofs.MemberLemmas.{Contains-head, Contains-behind}
+use Rattle.vt_facts.proofs.MemberLemmas.{Contains-head, Contains-behind}
 use Rattle.vt_model_json.specs.Dump.{attribute_members, values_of, links_of, target_names, link_members, object_data, objects_data, model_data}
 use Rattle.vt_dump_law.specs.Writable.{IsWritableValue, IsWritable}
 use Rattle.vt_dump_law.proofs.Links.{reference_name}

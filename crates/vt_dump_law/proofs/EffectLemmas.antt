@@ -10,13 +10,14 @@ use Rattle.vt_model.specs.Model.{Model, object_named}
 use Rattle.vt_model.specs.Assigning.{attribute_of, kind_asked, has_kind, value_given, with_value}
 use Rattle.vt_model.specs.Linking.{reference_of, is_target, linked}
 use Rattle.vt_model.specs.Containing.{closes_cycle}
-use Rattle.vt_model.specs.Effect.{first_of, unless_refused, effect}
+use Rattle.vt_model.specs.Effect.{unless_refused, effect}
 use Rattle.vt_model.specs.declared.metamodel.Feature.{Feature}
 use Rattle.vt_model.specs.declared.model.Object.{Object}
 use Rattle.vt_model.specs.declared.model.Link.{Link}
 use Rattle.vt_model.specs.declared.change.Given.{Given}
 use Rattle.vt_model.specs.declared.change.Change.TheVariants as change
 use Rattle.vt_model.specs.declared.change.Refusal.TheVariants.{ContainmentCycle}
+use Rattle.vt_facts.specs.Firsts.{first_of}
 
 -- a value that is given stands in place of the old one
 pub set_made : (meta : Metamodel) (g : Model) (name attr : List ℕ) (o : Object) (f : Feature)

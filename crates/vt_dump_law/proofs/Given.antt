@@ -8,7 +8,7 @@ use Rattle.vt_base.specs.declared.value.Value.TheVariants as value
 use Rattle.vt_base.specs.declared.value.Kind.{Kind}
 use Rattle.vt_base.specs.declared.value.Kind.TheVariants as kind
 use Rattle.vt_model.specs.Metamodel.{Metamodel}
-use Rattle.vt_model.specs.Words.{is_name, is_distinct}
+use Rattle.vt_facts.specs.Names.{is_name, is_distinct}
 use Rattle.vt_model.specs.Assigning.{is_literal, literal_named, has_kind, value_given}
 use Rattle.vt_model.specs.Fits.{HasKind}
 use Rattle.vt_model.specs.Sound.{IsAttributeKind}

@@ -7,11 +7,11 @@ use Rattle.std.proofs.lemmas.Bool.{and_parts, and_right, eqb-true, not_from_fals
 use Rattle.std.proofs.lemmas.List.Elements.{All-contains}
 use Rattle.std.proofs.lemmas.List.Folds.{Any-from_list_any}
 use Rattle.vt_model.specs.Metamodel.{Metamodel, isa, feature}
-use Rattle.vt_model.specs.Words.{is_name}
+use Rattle.vt_facts.specs.Names.{is_name}
 use Rattle.vt_model.specs.Model.{Model, object_named}
 use Rattle.vt_model.specs.Linking.{is_target, is_link, stands, oriented, is_dropped, relinked, linked}
 use Rattle.vt_model.specs.Containing.{is_circular, closes_cycle}
-use Rattle.vt_model.specs.Effect.{first_of, unless_refused, effect}
+use Rattle.vt_model.specs.Effect.{unless_refused, effect}
 use Rattle.vt_model.specs.Fits.{FitsReference}
 use Rattle.vt_model.specs.Sound.{IsSound}
 use Rattle.vt_model.specs.Valid.{IsValid, HasItsOpposite}
@@ -22,7 +22,7 @@ use Rattle.vt_model.specs.declared.model.Link.{Link}
 use Rattle.vt_model.specs.declared.change.Change.{Change}
 use Rattle.vt_model.specs.declared.change.Change.TheVariants as change
 use Rattle.vt_model.specs.declared.change.Refusal.TheVariants.{ContainmentCycle}
-use Rattle.vt_model.proofs.MemberLemmas.{Contains-head, Contains-behind, Contains-nil, Contains-cons_cases, Contains-filter, Contains-from_filter}
+use Rattle.vt_facts.specs.Firsts.{first_of}
 use Rattle.vt_model.proofs.Valid.{IsValid-effect}
 use Rattle.vt_model.proofs.Valid.Sides.{LinkSide, LinkSide-valid}
 use Rattle.vt_model.proofs.Valid.Backs.{oriented-either, IsBack-link_back}
@@ -34,6 +34,7 @@ use Rattle.vt_dump_law.proofs.EffectLemmas.{link_made}
 use Rattle.vt_dump_law.proofs.Made.{Makes}
 use Rattle.vt_dump_law.proofs.Displaced.{same_reference, same_link, is_dropped-comes, straight}
 use Rattle.vt_dump_law.proofs.Names.{object_named-live, name_of-live, class-live, feature-reference}
+use Rattle.vt_facts.proofs.MemberLemmas.{Contains-head, Contains-behind, Contains-nil, Contains-cons_cases, Contains-filter, Contains-from_filter}
 
 -- the name of the reference with this number
 abbrev pub reference_name : Metamodel → ℕ → List ℕ

@@ -11,8 +11,8 @@ use Rattle.std.proofs.lemmas.Cmp.{tied_itself}
 use Rattle.std.proofs.lemmas.List.{map-append}
 use Rattle.std.proofs.lemmas.List.Elements.{All-contains, All-from_recursion, Contains-append_left, Contains-append_right, Contains-append_cases}
 use Rattle.std.proofs.lemmas.Map.Keys.{sorted_head, sorted_tail}
-use Rattle.vt_model.proofs.MemberLemmas.{Contains-head, Contains-behind, Contains-nil, Contains-cons_cases}
-use Rattle.vt_model.proofs.Valid.Counts.{count_by-cons, count_by-yes, count_by-no}
+use Rattle.vt_facts.proofs.MemberLemmas.{Contains-head, Contains-behind, Contains-nil, Contains-cons_cases}
+use Rattle.vt_facts.proofs.CountLemmas.{count_by-cons, count_by-yes, count_by-no}
 
 -- ---- lists made of others
 

@@ -7,7 +7,7 @@ use Rattle.serde_json.specs.Data.{Data}
 use Rattle.vt_json.specs.Json.{json_of}
 use Rattle.vt_model.specs.Metamodel.{Metamodel, class_named}
 use Rattle.vt_meta.specs.Document.{document_shape}
-use Rattle.vt_model.specs.Words.{is_name, is_distinct}
+use Rattle.vt_facts.specs.Names.{is_name, is_distinct}
 use Rattle.vt_meta.specs.Built.{Declared, declared_by, attributes_from, references_from, enum_info, class_info, attr_info, ref_info, metamodel_of}
 use Rattle.vt_meta.specs.Faults.{Fault, duplicate_name, first_of, is_taken, is_bad_enum, is_bad_class, first_place, or_else, duplicate_place, first_fault}
 use Rattle.vt_meta.specs.Reading.{unless_faulty, judged, shaped, meta_of}
@@ -20,7 +20,7 @@ use Rattle.vt_model.specs.declared.metamodel.EnumInfo.{EnumInfo}
 use Rattle.vt_model.specs.declared.metamodel.ClassInfo.{ClassInfo}
 use Rattle.vt_model.specs.declared.metamodel.AttrInfo.{AttrInfo}
 use Rattle.vt_model.specs.declared.metamodel.RefInfo.{RefInfo}
-use Rattle.vt_model.proofs.PositionLemmas.{position-map}
+use Rattle.vt_facts.proofs.PositionLemmas.{position-map}
 use Rattle.vt_meta.proofs.Sound.{IsSound-metamodel_of}
 use Rattle.vt_meta.proofs.Sound.Shapes.{HasLiterals-document_shape}
 use Rattle.vt_model.proofs.SearchLemmas.{slice_get-from_map}

@@ -5,7 +5,7 @@ use Rattle.std.proofs.lemmas.List.Elements.{All-nil, All-cons}
 use Rattle.std.proofs.lemmas.Option.{same_Some}
 use Rattle.serde_json.specs.Data.{Data, Items, no_items, item}
 use Rattle.serde_json.specs.Find.{get, as_array, as_str, as_bool}
-use Rattle.vt_json.specs.Shape.{◌>>=◌, has_only, required, defaulted, optional, or_default, list_of, items_in}
+use Rattle.vt_json.specs.Shape.{has_only, required, defaulted, optional, or_default, list_of, items_in}
 use Rattle.vt_json.specs.Names.{is_name, continues_identifier, identifier}
 use Rattle.vt_meta.specs.Document.{some_of, enum_shape, attribute_shape, reference_shape, class_shape, document_shape, has_format_one}
 use Rattle.vt_meta.specs.declared.document.EnumDocument.{EnumDocument}
@@ -14,6 +14,7 @@ use Rattle.vt_meta.specs.declared.document.AttributeDocument.{AttributeDocument}
 use Rattle.vt_meta.specs.declared.document.ReferenceDocument.{ReferenceDocument}
 use Rattle.vt_meta.specs.declared.document.MetamodelDocument.{MetamodelDocument}
 use Rattle.vt_dump_law.proofs.PlainNames.{below-identifier, IsUtf8-is_name}
+use Rattle.vt_facts.specs.Parts.{◌>>=◌}
 
 -- ---- what holds of all that has one shape
 

@@ -12,7 +12,7 @@ use Rattle.vt_base.specs.declared.numbers.ClassId.{ClassId}
 use Rattle.vt_base.specs.declared.numbers.AttrId.{AttrId}
 use Rattle.vt_base.specs.declared.numbers.RefId.{RefId}
 use Rattle.vt_model.specs.Metamodel.{Metamodel, isa, feature_names, is_attribute_of, is_reference_of, or_reference, feature}
-use Rattle.vt_model.specs.Words.{is_name}
+use Rattle.vt_facts.specs.Names.{is_name}
 use Rattle.vt_model.specs.Model.{Model, object_named}
 use Rattle.vt_model.specs.Sound.{IsSound}
 use Rattle.vt_model.specs.Valid.{IsValid, IsConcrete, object_order}
@@ -21,9 +21,9 @@ use Rattle.vt_model.specs.declared.metamodel.AttrInfo.{AttrInfo}
 use Rattle.vt_model.specs.declared.metamodel.RefInfo.{RefInfo}
 use Rattle.vt_model.specs.declared.metamodel.Feature.TheVariants.{Attr, Ref}
 use Rattle.vt_model.specs.declared.model.Object.{Object}
-use Rattle.vt_model.proofs.MemberLemmas.{Contains-find, find-some}
-use Rattle.vt_model.proofs.Valid.Counts.{count_by-append, count_by-map}
-use Rattle.vt_model.proofs.Valid.Found.{IsAt-position}
+use Rattle.vt_facts.proofs.MemberLemmas.{Contains-find, find-some}
+use Rattle.vt_facts.proofs.CountLemmas.{count_by-append, count_by-map}
+use Rattle.vt_facts.proofs.PositionLemmas.{IsAt-position}
 use Rattle.vt_model.proofs.Valid.Names.{times-is_distinct, times-objects, is_name-itself}
 use Rattle.vt_model.proofs.SearchLemmas.{count_by-at, position-only}
 use Rattle.vt_model_json.specs.Dump.{name_of}

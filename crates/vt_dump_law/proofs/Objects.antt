@@ -10,7 +10,7 @@ use Rattle.std.proofs.lemmas.Map.Keys.{sorted_tail}
 use Rattle.vt_base.specs.declared.numbers.ClassId.{ClassId}
 use Rattle.vt_base.specs.declared.value.Value.{Value}
 use Rattle.vt_model.specs.Metamodel.{Metamodel, isa, class_named}
-use Rattle.vt_model.specs.Words.{is_name}
+use Rattle.vt_facts.specs.Names.{is_name}
 use Rattle.vt_model.specs.Model.{Model, object_named, gone_named}
 use Rattle.vt_model.specs.Creating.{is_abstract, is_taken, is_reserved, default_value, defaults_from, created}
 use Rattle.vt_model.specs.Effect.{effect}
@@ -24,7 +24,7 @@ use Rattle.vt_model.specs.declared.model.GoneObject.{GoneObject}
 use Rattle.vt_model.specs.declared.model.AttributeValue.{AttributeValue}
 use Rattle.vt_model.specs.declared.change.Change.{Change}
 use Rattle.vt_model.specs.declared.change.Change.TheVariants.{Create}
-use Rattle.vt_model.proofs.MemberLemmas.{Contains-head, Contains-find}
+use Rattle.vt_facts.proofs.MemberLemmas.{Contains-head, Contains-find}
 use Rattle.vt_model.proofs.Valid.{IsValid-effect}
 use Rattle.vt_model.proofs.Valid.Defaults.{All-defaults_from}
 use Rattle.vt_model.proofs.Valid.Names.{same_name}

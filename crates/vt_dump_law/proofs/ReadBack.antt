@@ -24,7 +24,7 @@ use Rattle.serde_json.proofs.Texts.{print-outline}
 use Rattle.vt_json.specs.Json.{json_of}
 use Rattle.vt_json.specs.Shape.{keys_of}
 use Rattle.vt_json.proofs.JsonLemmas.{json_of_text}
-use Rattle.vt_model.proofs.MemberLemmas.{Contains-head}
+use Rattle.vt_facts.proofs.MemberLemmas.{Contains-head}
 use Rattle.vt_dump_law.proofs.Lists.{below_head}
 use Rattle.vt_dump_law.proofs.Readable.{IsReadable, AreReadable, MembersAreReadable, number_of-number_text, IsNumber-number_text, IsUtf8-number_text}
 

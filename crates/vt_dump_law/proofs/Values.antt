@@ -11,7 +11,7 @@ use Rattle.std.proofs.lemmas.List.Elements.{All-contains}
 use Rattle.vt_base.specs.declared.numbers.ObjId.{ObjId}
 use Rattle.vt_base.specs.declared.numbers.AttrId.{AttrId}
 use Rattle.vt_model.specs.Metamodel.{Metamodel, feature}
-use Rattle.vt_model.specs.Words.{is_name}
+use Rattle.vt_facts.specs.Names.{is_name}
 use Rattle.vt_model.specs.Model.{Model, object_named}
 use Rattle.vt_model.specs.Assigning.{kind_asked, value_order, is_value_of, with_value}
 use Rattle.vt_model.specs.Effect.{effect}
@@ -23,7 +23,7 @@ use Rattle.vt_model.specs.declared.metamodel.Feature.TheVariants.{Attr}
 use Rattle.vt_model.specs.declared.model.Object.{Object}
 use Rattle.vt_model.specs.declared.model.AttributeValue.{AttributeValue}
 use Rattle.vt_model.specs.declared.change.Change.{Change}
-use Rattle.vt_model.proofs.MemberLemmas.{Contains-head, Contains-behind, Contains-nil, Contains-cons_cases, Contains-filter, Contains-from_filter, Contains-insert_key_cases, Contains-insert_key_old}
+use Rattle.vt_facts.proofs.MemberLemmas.{Contains-head, Contains-behind, Contains-nil, Contains-cons_cases, Contains-filter, Contains-from_filter, Contains-insert_key_cases, Contains-insert_key_old}
 use Rattle.vt_model_json.specs.Loading.{assignment}
 use Rattle.vt_model_json.specs.Dump.{attribute_name, name_of}
 use Rattle.vt_dump_law.proofs.EffectLemmas.{set_made}

@@ -4,7 +4,8 @@ use Rattle.vt_grammar.specs.declared.lexeme.Lexeme.{Lexeme}
 use Rattle.vt_grammar.specs.Grammar.{Grammar, alt, Spells, IsPart}
 use Rattle.vt_grammar.specs.Reading.{Read, is_empty, first, more, apart, starts}
 use Rattle.vt_grammar.proofs.Exact.{Exact, Outcome}
-use Rattle.vt_grammar.proofs.PartLemmas.{or_none, both, apart_at, spells_part, empty_sound, part_first}
+use Rattle.vt_grammar.proofs.PartLemmas.{both, apart_at, spells_part, empty_sound, part_first}
+use Rattle.vt_facts.proofs.BoolLemmas.{or_none}
 
 -- a part of a list that doesn't begin it is nothing
 pub no_part : {A : Type 0} (a : Grammar A) (ls p q : List Lexeme) → starts (first a) ls ≡ false → IsPart a p → ls ≡ p ++ q → p ≡ []

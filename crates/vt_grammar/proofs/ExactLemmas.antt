@@ -6,7 +6,8 @@ use Rattle.vt_grammar.specs.declared.symbol.Symbol.{Symbol}
 use Rattle.vt_grammar.specs.Grammar.{Grammar, nothing, token, seq, made, Spells, IsPart}
 use Rattle.vt_grammar.specs.Reading.{Read, ◌>>=◌, is_empty, first, more, apart, starts, one_of}
 use Rattle.vt_grammar.proofs.Exact.{Exact, Outcome}
-use Rattle.vt_grammar.proofs.PartLemmas.{is_same, same_is, or_none, apart_at, append_nil, spells_part, empty_sound, part_first}
+use Rattle.vt_grammar.proofs.PartLemmas.{is_same, same_is, apart_at, append_nil, spells_part, empty_sound, part_first}
+use Rattle.vt_facts.proofs.BoolLemmas.{or_none}
 
 -- two readings that are equal gave one value
 pub ok_same : {A : Type 0} (x y : A × List Lexeme) → ◌≡◌ {A = Read A} (Ok x) (Ok y) → x ≡ y

@@ -1,5 +1,5 @@
 -- Laws of what is spelled and of its parts.
-use Rattle.std.proofs.Common.{ℕ, zero, suc, ◌≡◌, ◌<◌, ◌⊎◌, inl, inr, Bool, true, false, not, ◌&&◌, ◌||◌, List, [], ◌∷◌, ◌++◌, length, get_or, Some, None, refl, sym, ◌∙◌, ap, subst, arith, append_assoc, if◌then◌else◌}
+use Rattle.std.proofs.Common.{ℕ, zero, suc, ◌≡◌, ◌<◌, ◌⊎◌, inl, inr, Bool, true, false, not, ◌&&◌, List, [], ◌∷◌, ◌++◌, length, get_or, Some, None, refl, sym, ◌∙◌, ap, subst, arith, append_assoc, if◌then◌else◌}
 use Rattle.std.specs.List.{list_all}
 use Rattle.vt_grammar.specs.declared.lexeme.Lexeme.{Lexeme}
 use Rattle.vt_grammar.specs.declared.symbol.Symbol.{Symbol}
@@ -9,6 +9,7 @@ use denote.Enum.Bare.{same_true, true_same}
 use Rattle.vt_grammar.specs.Symbols.{same, closes, closer, all_symbols}
 use Rattle.vt_grammar.specs.Grammar.{Grammar, nothing, token, seq, alt, star, made, balanced, Spells, SpellsAll, IsPart, still_open, step, close_one, open_one}
 use Rattle.vt_grammar.specs.Reading.{is_empty, also, first, apart}
+use Rattle.vt_facts.proofs.BoolLemmas.{or_left, or_right, and_left, and_right}
 
 -- symbols that pass the test are one
 pub is_same : (a b : Symbol) → same a b ≡ true → a ≡ b
@@ -17,21 +18,6 @@ is_same a b h = same_true the_type tt a b h
 -- one symbol passes the test
 pub same_is : (a b : Symbol) → a ≡ b → same a b ≡ true
 same_is a b h = true_same the_type a b h
-
--- of the two, one is true
-pub or_left : (a b : Bool) → a ≡ true → (a || b) ≡ true
-or_left true b h = refl
-or_left false b h = cc
-
--- of the two, the other is true
-pub or_right : (a b : Bool) → b ≡ true → (a || b) ≡ true
-or_right true b h = refl
-or_right false b h = h
-
--- of the two, none is true
-pub or_none : (a b : Bool) → (a || b) ≡ false → (a ≡ false) × (b ≡ false)
-or_none true b h = cc
-or_none false b h = (refl, h)
 
 -- the first counts always
 pub also_left : (e x y : Bool) → x ≡ true → also e x y ≡ true
@@ -47,16 +33,6 @@ also_right false x y e h = cc
 pub both : (a b : Bool) → a ≡ true → b ≡ true → (a && b) ≡ true
 both true b h k = k
 both false b h k = cc
-
--- the first of both
-pub and_left : (a b : Bool) → (a && b) ≡ true → a ≡ true
-and_left true b h = refl
-and_left false b h = cc
-
--- the second of both
-pub and_right : (a b : Bool) → (a && b) ≡ true → b ≡ true
-and_right true b h = h
-and_right false b h = cc
 
 -- what is not true is false
 pub not_true : (a : Bool) → not a ≡ true → a ≡ false

@@ -4,9 +4,10 @@ use Rattle.vt_grammar.specs.declared.lexeme.Lexeme.{Lexeme}
 use Rattle.vt_grammar.specs.Grammar.{Grammar, seq, star, Join, Spells, SpellsAll, IsPart}
 use Rattle.vt_grammar.specs.Reading.{Read, ◌>>=◌, is_empty, first, more, apart, starts, many}
 use Rattle.vt_grammar.proofs.Exact.{Exact, Outcome}
-use Rattle.vt_grammar.proofs.PartLemmas.{or_none, part_nil, append_nil, spells_part, empty_sound}
+use Rattle.vt_grammar.proofs.PartLemmas.{part_nil, append_nil, spells_part, empty_sound}
 use Rattle.vt_grammar.proofs.ExactLemmas.{exact_seq}
 use Rattle.vt_grammar.proofs.ChoiceLemmas.{no_part}
+use Rattle.vt_facts.proofs.BoolLemmas.{or_none}
 
 -- where none begins, the repetition is empty
 star_stops : {A : Type 0} (a : Grammar A) (ls : List Lexeme) → is_empty a ≡ false → starts (first a) ls ≡ false → Exact (star a) ls (Ok ([], ls))

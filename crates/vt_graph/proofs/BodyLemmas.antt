@@ -11,16 +11,15 @@ use Rattle.std.specs.declared.cmp.Ordering.TheVariants.{Equal}
 use Rattle.std.proofs.lemmas.Bool.{cases_eq, not_from_false, not_from_true}
 use Rattle.std.proofs.lemmas.Cmp.{on_total}
 use Rattle.vt_base.specs.declared.numbers.ObjId.{ObjId}
-use Rattle.vt_model.proofs.MemberLemmas.{Contains-head, Contains-behind, Contains-map, Contains-insert_key_cases, Contains-insert_key_old}
-use Rattle.vt_model.proofs.OrderedLemmas.{IsStrictlySortedBy-insert_key}
+use Rattle.vt_facts.proofs.MemberLemmas.{Contains-head, Contains-behind, Contains-map, Contains-insert_key_cases, Contains-insert_key_old, Contains-from_map}
+use Rattle.vt_facts.proofs.OrderedLemmas.{IsStrictlySortedBy-insert_key}
 use Rattle.vt_slots.specs.Slots.{slot_order, NumbersRise, slot_at, put_body, with_body}
 use Rattle.vt_slots.specs.declared.slot.Body.{Body}
 use Rattle.vt_slots.specs.declared.slot.Slot.{Slot}
-use Rattle.vt_graph.proofs.RisingLemmas.{Contains-insert_key_there, same_items}
-use Rattle.vt_graph.proofs.ChosenLemmas.{Contains-filter_map, Contains-from_filter_map, rises-filter_map, filter_map-map}
+use Rattle.vt_facts.proofs.RisingLemmas.{Contains-insert_key_there, same_items}
+use Rattle.vt_facts.proofs.ChosenLemmas.{Contains-filter_map, Contains-from_filter_map, rises-filter_map, filter_map-map}
 use Rattle.vt_graph.proofs.SlotLemmas.{same_object, slot_at_stands, slot_at_number, slot_at_is, put_body_own, put_body_other, numbers_rise_with_body}
 use Rattle.vt_graph.proofs.Linked.Ends.{number_order-Equal}
-use Rattle.vt_graph.proofs.Linked.Stored.{Contains-from_map}
 
 -- a choice that is tested
 abbrev pub choice_if : {Y : Type 0} → (Y → Bool) → Option Y → Option Y

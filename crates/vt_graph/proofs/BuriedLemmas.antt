@@ -11,13 +11,13 @@ use Rattle.vt_base.specs.declared.numbers.ObjId.{ObjId}
 use Rattle.vt_base.specs.declared.numbers.RefId.{RefId}
 use Rattle.vt_base.specs.declared.value.Value.{Value}
 use Rattle.vt_model.specs.Metamodel.{Metamodel}
-use Rattle.vt_model.specs.Words.{is_distinct}
+use Rattle.vt_facts.specs.Names.{is_distinct}
 use Rattle.vt_model.specs.Valid.{object_order}
 use Rattle.vt_model.specs.Deleting.{gone_order}
 use Rattle.vt_model.specs.declared.model.Object.{Object}
 use Rattle.vt_model.specs.declared.model.GoneObject.{GoneObject}
 use Rattle.vt_model.specs.declared.model.AttributeValue.{AttributeValue}
-use Rattle.vt_model.proofs.MemberLemmas.{All-from_contains}
+use Rattle.vt_facts.proofs.MemberLemmas.{All-from_contains}
 use Rattle.vt_slots.specs.Ends.{EndList, objects_of, capacity_of}
 use Rattle.vt_slots.specs.Slots.{slot_at, body_at, ends_on, ends_at, put_body, with_body}
 use Rattle.vt_slots.specs.declared.slot.Side.{Side}
@@ -33,7 +33,7 @@ use Rattle.vt_graph.specs.Inside.Planned.{AreListings}
 use Rattle.vt_graph.specs.Inside.Indexed.{IsBodyOf, IsSlot, IsIndexed}
 use Rattle.vt_graph.specs.Inside.Ended.{EndsRise, SameObjects}
 use Rattle.vt_graph.specs.Inside.Spare.{IsSpare}
-use Rattle.vt_graph.proofs.ChosenLemmas.{Contains-from_filter_map, flat_map-agree}
+use Rattle.vt_facts.proofs.ChosenLemmas.{Contains-from_filter_map, flat_map-agree}
 use Rattle.vt_graph.proofs.SlotLemmas.{same_object, slot_at_stands, slot_at_number, slot_at_is, body_at_found, ends_at_body, ends_at_none, put_body_own, put_body_other, slot_at_with_body, numbers_rise_with_body, body_at_with_body_own, ends_at_with_body_other}
 use Rattle.vt_graph.proofs.HadLemmas.{body_fits}
 use Rattle.vt_graph.proofs.StayLemmas.{map-changed}

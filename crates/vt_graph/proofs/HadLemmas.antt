@@ -12,7 +12,7 @@ use Rattle.vt_base.specs.declared.numbers.ClassId.{ClassId}
 use Rattle.vt_base.specs.declared.numbers.AttrId.{AttrId}
 use Rattle.vt_model.specs.Metamodel.{Metamodel, isa}
 use Rattle.vt_model.specs.declared.metamodel.AttrInfo.{AttrInfo}
-use Rattle.vt_model.proofs.MemberLemmas.{Contains-nil, Contains-head, Contains-behind, Contains-cons_cases, Contains-map}
+use Rattle.vt_facts.proofs.MemberLemmas.{Contains-nil, Contains-head, Contains-behind, Contains-cons_cases, Contains-map, Contains-from_map}
 use Rattle.vt_slots.specs.Values.{AttributesRise, HasPlace}
 use Rattle.vt_slots.specs.declared.values.Held.{Held}
 use Rattle.vt_slots.specs.declared.slot.Body.{Body}
@@ -20,8 +20,7 @@ use Rattle.vt_slots.specs.declared.slot.Slot.{Slot}
 use Rattle.vt_graph.specs.Inside.Planned.{attributes_from, attributes_had}
 use Rattle.vt_graph.specs.Inside.Indexed.{IsBodyOf, IsSlot}
 use Rattle.vt_graph.specs.declared.plan.AttributePlan.{AttributePlan}
-use Rattle.vt_graph.proofs.RisingLemmas.{rises-none, rises-cons}
-use Rattle.vt_graph.proofs.Linked.Stored.{Contains-from_map}
+use Rattle.vt_facts.proofs.RisingLemmas.{rises-none, rises-cons}
 
 -- ---- a list rises as its keys do
 

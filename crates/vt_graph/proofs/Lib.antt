@@ -1,5 +1,3 @@
-pub mod RisingLemmas
-pub mod ChosenLemmas
 pub mod PlanLemmas
 pub mod SlotLemmas
 pub mod HadLemmas

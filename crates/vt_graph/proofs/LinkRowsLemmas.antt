@@ -19,7 +19,7 @@ use Rattle.vt_model.specs.declared.metamodel.RefInfo.{RefInfo}
 use Rattle.vt_model.specs.declared.model.Object.{Object}
 use Rattle.vt_model.specs.declared.model.Link.{Link}
 use Rattle.vt_model.proofs.BaseLemmas.{Ascends-reference_rows}
-use Rattle.vt_model.proofs.MemberLemmas.{Contains-nil, Contains-map, Contains-filter, Contains-from_filter}
+use Rattle.vt_facts.proofs.MemberLemmas.{Contains-nil, Contains-map, Contains-filter, Contains-from_filter, Contains-from_map}
 use Rattle.vt_slots.specs.Ends.{number_order, ObjectsRise, objects_of}
 use Rattle.vt_slots.specs.Slots.{NumbersRise, slot_at, body_at, ends_on, ends_at}
 use Rattle.vt_slots.specs.declared.slot.Side.TheVariants.{Outgoing}
@@ -29,11 +29,11 @@ use Rattle.vt_graph.specs.Inside.Stored.{model_of, live_object}
 use Rattle.vt_graph.specs.Inside.Planned.{listing}
 use Rattle.vt_graph.specs.Inside.Ended.{AllEndsRise}
 use Rattle.vt_graph.specs.Inside.Rowed.{targets_in, target_rows, link_rows}
-use Rattle.vt_graph.proofs.RisingLemmas.{same_items, rises-none, rises-cons, first_below, rest_rises}
-use Rattle.vt_graph.proofs.ChosenLemmas.{Contains-flat_map, Contains-from_flat_map, Contains-from_filter_map, rises-flat_map}
+use Rattle.vt_facts.proofs.RisingLemmas.{same_items, rises-none, rises-cons, first_below, rest_rises}
+use Rattle.vt_facts.proofs.ChosenLemmas.{Contains-flat_map, Contains-from_flat_map, Contains-from_filter_map, rises-flat_map}
 use Rattle.vt_graph.proofs.SlotLemmas.{equal_numbers, slot_at_stands, slot_at_number}
 use Rattle.vt_graph.proofs.Linked.Ends.{same_reference, objects_of_rise}
-use Rattle.vt_graph.proofs.Linked.Stored.{Contains-from_map, from_to, all_links, links_rise, link_listed, listed_link}
+use Rattle.vt_graph.proofs.Linked.Stored.{from_to, all_links, links_rise, link_listed, listed_link}
 use Rattle.vt_graph.proofs.RowsLemmas.{pair_below}
 
 -- the rows of one object rise with their targets

@@ -15,13 +15,13 @@ use Rattle.vt_base.specs.declared.numbers.ObjId.{ObjId}
 use Rattle.vt_base.specs.declared.numbers.ClassId.{ClassId}
 use Rattle.vt_model.specs.Metamodel.{Metamodel, isa}
 use Rattle.vt_model.specs.declared.metamodel.ClassInfo.{ClassInfo}
-use Rattle.vt_model.proofs.MemberLemmas.{Contains-nil, Contains-head, Contains-behind, Contains-cons_cases, All-from_contains}
+use Rattle.vt_facts.proofs.MemberLemmas.{Contains-nil, Contains-head, Contains-behind, Contains-cons_cases, All-from_contains}
 use Rattle.vt_slots.specs.Slots.{with_body}
 use Rattle.vt_slots.specs.declared.slot.Body.{Body}
 use Rattle.vt_slots.specs.declared.slot.Slot.{Slot}
 use Rattle.vt_graph.specs.Inside.Planned.{above_from, listing, AreListings}
 use Rattle.vt_graph.specs.Inside.Making.{changed_at, with_last, without_last}
-use Rattle.vt_graph.proofs.RisingLemmas.{rises-none, rises-cons, first_below, rest_rises, not_below_itself}
+use Rattle.vt_facts.proofs.RisingLemmas.{rises-none, rises-cons, first_below, rest_rises, not_below_itself}
 
 -- ---- one listing among others
 

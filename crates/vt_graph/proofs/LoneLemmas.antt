@@ -8,7 +8,7 @@ use Rattle.vt_base.specs.declared.value.Value.{Value}
 use Rattle.vt_model.specs.Metamodel.{Metamodel}
 use Rattle.vt_model.specs.declared.model.AttributeValue.{AttributeValue}
 use Rattle.vt_model.specs.declared.model.Link.{Link}
-use Rattle.vt_model.proofs.MemberLemmas.{Contains-nil, Contains-head, All-from_contains}
+use Rattle.vt_facts.proofs.MemberLemmas.{Contains-nil, Contains-head, All-from_contains}
 use Rattle.vt_slots.specs.Ends.{objects_of}
 use Rattle.vt_slots.specs.Slots.{ends_at}
 use Rattle.vt_slots.specs.declared.slot.Side.{Side}
@@ -19,7 +19,7 @@ use Rattle.vt_slots.specs.declared.slot.Slot.{Slot}
 use Rattle.vt_graph.specs.Passing.{HasNoLinks, HasNoValues}
 use Rattle.vt_graph.specs.Inside.Stored.{model_of, attribute_value, body_values}
 use Rattle.vt_graph.specs.Inside.Indexed.{IsIndexed}
-use Rattle.vt_graph.proofs.ChosenLemmas.{Contains-flat_map, Contains-filter_map}
+use Rattle.vt_facts.proofs.ChosenLemmas.{Contains-flat_map, Contains-filter_map}
 use Rattle.vt_graph.proofs.ValueLemmas.{body_value_object}
 use Rattle.vt_graph.proofs.Linked.Stored.{from_to, listed_link}
 use Rattle.vt_graph.proofs.Linked.Bare.{ends_rise}

@@ -3,7 +3,7 @@ use Rattle.std.proofs.Common.{◌≡◌, ℕ, ◌<◌, ◌≤◌, List, refl, Op
 use Rattle.std.specs.Prelude.{All, Contains}
 use Rattle.std.proofs.lemmas.List.Elements.{All-contains}
 use Rattle.vt_model.specs.Metamodel.{Metamodel}
-use Rattle.vt_model.proofs.MemberLemmas.{All-from_contains}
+use Rattle.vt_facts.proofs.MemberLemmas.{All-from_contains}
 use Rattle.vt_slots.specs.declared.slot.Body.{Body}
 use Rattle.vt_slots.specs.declared.slot.Slot.{Slot}
 use Rattle.vt_graph.specs.Inside.Stored.{model_of}

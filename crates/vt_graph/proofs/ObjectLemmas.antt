@@ -5,13 +5,13 @@ use Rattle.std.specs.List.{filter_map, cons_option, list_any}
 use Rattle.std.specs.List.Sorted.{IsStrictlySortedBy}
 use Rattle.std.proofs.lemmas.Bool.{and_parts, not-true}
 use Rattle.vt_base.specs.declared.numbers.ObjId.{ObjId}
-use Rattle.vt_model.specs.Words.{is_name, is_distinct}
+use Rattle.vt_facts.specs.Names.{is_name, is_distinct}
 use Rattle.vt_model.specs.Model.{object_named, gone_named}
 use Rattle.vt_model.specs.Valid.{object_order}
 use Rattle.vt_model.specs.Deleting.{gone_order}
 use Rattle.vt_model.specs.declared.model.Object.{Object}
 use Rattle.vt_model.specs.declared.model.GoneObject.{GoneObject}
-use Rattle.vt_model.proofs.MemberLemmas.{Contains-find}
+use Rattle.vt_facts.proofs.MemberLemmas.{Contains-find}
 use Rattle.vt_model.proofs.PlacesLemmas.{same_name}
 use Rattle.vt_slots.specs.Slots.{slot_order, NumbersRise, NamesDiffer, slot_at, slot_named}
 use Rattle.vt_slots.specs.declared.slot.Body.{Body}
@@ -20,8 +20,8 @@ use Rattle.vt_graph.specs.Asked.{live_at, gone_at, name_at, class_at, or_gone, s
 use Rattle.vt_graph.specs.Inside.Stored.{model_of, live_object, gone_object, gone_if_none}
 use Rattle.vt_graph.specs.declared.seen.Seen.{Seen}
 use Rattle.vt_graph.specs.declared.seen.Seen.TheVariants.{Live, Gone, Never}
-use Rattle.vt_graph.proofs.RisingLemmas.{first_below, rest_rises, not_tied_below}
-use Rattle.vt_graph.proofs.ChosenLemmas.{Contains-filter_map, Contains-from_filter_map, rises-filter_map}
+use Rattle.vt_facts.proofs.RisingLemmas.{first_below, rest_rises, not_tied_below}
+use Rattle.vt_facts.proofs.ChosenLemmas.{Contains-filter_map, Contains-from_filter_map, rises-filter_map}
 use Rattle.vt_graph.proofs.SlotLemmas.{equal_numbers, slot_order_total, tied_numbers}
 
 -- ---- what is found among items that are chosen

@@ -13,7 +13,7 @@ use Rattle.vt_base.specs.declared.numbers.ClassId.{ClassId}
 use Rattle.vt_model.specs.Metamodel.{Metamodel}
 use Rattle.vt_model.specs.declared.model.Object.{Object}
 use Rattle.vt_model.specs.declared.model.AttributeValue.{AttributeValue}
-use Rattle.vt_model.proofs.MemberLemmas.{Contains-nil, Contains-head, Contains-behind, Contains-cons_cases, All-from_contains}
+use Rattle.vt_facts.proofs.MemberLemmas.{Contains-nil, Contains-head, Contains-behind, Contains-cons_cases, All-from_contains}
 use Rattle.vt_slots.specs.Ends.{objects_of, capacity_of}
 use Rattle.vt_slots.specs.Slots.{slot_order, NumbersRise, slot_at, ends_at}
 use Rattle.vt_slots.specs.declared.slot.Side.{Side}
@@ -30,8 +30,8 @@ use Rattle.vt_graph.specs.Inside.Indexed.{IsSlot, IsIndexed}
 use Rattle.vt_graph.specs.Inside.Making.{changed_at, without_last}
 use Rattle.vt_graph.specs.declared.plan.ClassPlan.{ClassPlan}
 use Rattle.vt_graph.specs.Inside.Ended.{SameObjects}
-use Rattle.vt_graph.proofs.RisingLemmas.{first_below, rest_rises}
-use Rattle.vt_graph.proofs.ChosenLemmas.{Contains-from_flat_map, filter-all}
+use Rattle.vt_facts.proofs.RisingLemmas.{first_below, rest_rises}
+use Rattle.vt_facts.proofs.ChosenLemmas.{Contains-from_flat_map, filter-all}
 use Rattle.vt_graph.proofs.SlotLemmas.{same_object, slot_at_stands, slot_at_number, body_at_none, ends_at_none, slot_at_push_other, ends_at_push_other}
 use Rattle.vt_graph.proofs.ValueLemmas.{body_value_object}
 use Rattle.vt_graph.proofs.ObjectLemmas.{live_at_slot, object_of, gone_of, live_of_slot, gone_of_slot, slot_of_live}

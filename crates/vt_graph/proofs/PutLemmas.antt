@@ -13,16 +13,16 @@ use Rattle.vt_base.specs.declared.numbers.AttrId.{AttrId}
 use Rattle.vt_base.specs.declared.value.Value.{Value}
 use Rattle.vt_model.specs.Assigning.{value_order, is_value_of}
 use Rattle.vt_model.specs.declared.model.AttributeValue.{AttributeValue}
-use Rattle.vt_model.proofs.MemberLemmas.{Contains-find, Contains-filter, Contains-from_filter, Contains-insert_key_cases, Contains-insert_key_old}
-use Rattle.vt_model.proofs.OrderedLemmas.{IsStrictlySortedBy-insert_key}
+use Rattle.vt_facts.proofs.MemberLemmas.{Contains-find, Contains-filter, Contains-from_filter, Contains-insert_key_cases, Contains-insert_key_old}
+use Rattle.vt_facts.proofs.OrderedLemmas.{IsStrictlySortedBy-insert_key}
 use Rattle.vt_model.proofs.Valid.Defaults.{is_value_of-yes}
 use Rattle.vt_slots.specs.Values.{HasPlace, place_of, value_in, put_in, with_held}
 use Rattle.vt_slots.specs.Slots.{NumbersRise, slot_at, body_at, slot_value, with_value_at, with_slot_value}
 use Rattle.vt_slots.specs.declared.values.Held.{Held}
 use Rattle.vt_slots.specs.declared.slot.Body.{Body}
 use Rattle.vt_slots.specs.declared.slot.Slot.{Slot}
-use Rattle.vt_graph.proofs.RisingLemmas.{same_items, Contains-insert_key_there}
-use Rattle.vt_graph.proofs.ChosenLemmas.{find-map, find-agree}
+use Rattle.vt_facts.proofs.RisingLemmas.{same_items, Contains-insert_key_there}
+use Rattle.vt_facts.proofs.ChosenLemmas.{find-map, find-agree}
 use Rattle.vt_graph.proofs.SlotLemmas.{same_object, equal_numbers, body_at_with_value_own, slot_at_with_value_other, slot_at_with_value}
 use Rattle.vt_graph.proofs.HadLemmas.{ValuesRise}
 use Rattle.vt_graph.proofs.ValueLemmas.{same_attribute, value_order_total, value_of_parts, slot_values, value_stands, value_stood, slot_values_rise}

@@ -18,7 +18,7 @@ use Rattle.vt_model.specs.declared.metamodel.AttrInfo.{AttrInfo}
 use Rattle.vt_model.specs.declared.model.Object.{Object}
 use Rattle.vt_model.specs.declared.model.AttributeValue.{AttributeValue}
 use Rattle.vt_model.proofs.BaseLemmas.{Ascends-attribute_rows}
-use Rattle.vt_model.proofs.MemberLemmas.{Contains-head, Contains-behind, Contains-map, Contains-filter, Contains-from_filter}
+use Rattle.vt_facts.proofs.MemberLemmas.{Contains-head, Contains-behind, Contains-map, Contains-filter, Contains-from_filter, Contains-from_map}
 use Rattle.vt_slots.specs.Values.{value_in}
 use Rattle.vt_slots.specs.Ends.{number_order, ObjectsRise}
 use Rattle.vt_slots.specs.Slots.{slot_order, NumbersRise, slot_at, body_at, slot_value}
@@ -29,10 +29,9 @@ use Rattle.vt_graph.specs.Inside.Stored.{model_of, live_object}
 use Rattle.vt_graph.specs.Inside.Planned.{attributes_had, listing}
 use Rattle.vt_graph.specs.Inside.Indexed.{IsIndexed}
 use Rattle.vt_graph.specs.Inside.Rowed.{live_rows, value_row, value_rows}
-use Rattle.vt_graph.proofs.RisingLemmas.{same_items}
-use Rattle.vt_graph.proofs.ChosenLemmas.{Contains-filter_map, Contains-from_filter_map, rises-filter_map}
+use Rattle.vt_facts.proofs.RisingLemmas.{same_items}
+use Rattle.vt_facts.proofs.ChosenLemmas.{Contains-filter_map, Contains-from_filter_map, rises-filter_map}
 use Rattle.vt_graph.proofs.SlotLemmas.{equal_numbers, slot_at_stands, slot_at_number, slot_at_is, body_at_found}
-use Rattle.vt_graph.proofs.Linked.Stored.{Contains-from_map}
 use Rattle.vt_graph.proofs.HadLemmas.{rises-map, ValuesRise, body_fits, values_rise_each, had_back}
 use Rattle.vt_graph.proofs.ValueLemmas.{same_attribute, value_found, value_stands, value_stood, slot_values_rise}
 

@@ -10,7 +10,7 @@ use Rattle.std.proofs.lemmas.List.Elements.{All-contains}
 use Rattle.vt_base.specs.declared.numbers.ObjId.{ObjId}
 use Rattle.vt_base.specs.declared.numbers.AttrId.{AttrId}
 use Rattle.vt_base.specs.declared.value.Value.{Value}
-use Rattle.vt_model.proofs.MemberLemmas.{Contains-head, Contains-behind, Contains-find, find-some}
+use Rattle.vt_facts.proofs.MemberLemmas.{Contains-head, Contains-behind, Contains-find, find-some}
 use Rattle.vt_slots.specs.Ends.{EndList}
 use Rattle.vt_slots.specs.Slots.{slot_order, NumbersRise, slot_at, body_at, ends_on, ends_at, put_body, with_body, with_value_at, put_value_in, with_slot_value}
 use Rattle.vt_slots.specs.declared.slot.Side.{Side}
@@ -19,8 +19,8 @@ use Rattle.vt_slots.specs.declared.slot.Body.{Body}
 use Rattle.vt_slots.specs.declared.slot.Slot.{Slot}
 use Rattle.vt_slots.proofs.PlaceLemmas.{sorted_alike}
 use Rattle.vt_slots.proofs.SlotsLemmas.{slot_number}
-use Rattle.vt_graph.proofs.RisingLemmas.{find_is}
-use Rattle.vt_graph.proofs.ChosenLemmas.{find-map, find-agree}
+use Rattle.vt_facts.proofs.RisingLemmas.{find_is}
+use Rattle.vt_facts.proofs.ChosenLemmas.{find-map, find-agree}
 
 -- ---- numbers
 

@@ -10,7 +10,7 @@ use Rattle.vt_base.specs.declared.numbers.ClassId.{ClassId}
 use Rattle.vt_base.specs.declared.numbers.AttrId.{AttrId}
 use Rattle.vt_base.specs.declared.value.Value.{Value}
 use Rattle.vt_model.specs.Metamodel.{Metamodel, isa}
-use Rattle.vt_model.specs.Words.{is_distinct}
+use Rattle.vt_facts.specs.Names.{is_distinct}
 use Rattle.vt_model.specs.Assigning.{value_order, is_value_of, with_default_value}
 use Rattle.vt_model.specs.declared.model.AttributeValue.{AttributeValue}
 use Rattle.vt_slots.specs.Values.{HasPlace, put_in}
@@ -24,7 +24,7 @@ use Rattle.vt_graph.specs.Having.{HasAttribute}
 use Rattle.vt_graph.specs.Inside.Stored.{model_of, live_object, gone_if_none, gone_object, body_links, place_of, places_of}
 use Rattle.vt_graph.specs.Inside.Planned.{attributes_had, listing, AreListings}
 use Rattle.vt_graph.specs.Inside.Indexed.{IsBodyOf, IsSlot, IsTwoEnded, IsIndexed}
-use Rattle.vt_graph.proofs.ChosenLemmas.{filter_map-map, filter_map-agree, flat_map-agree}
+use Rattle.vt_facts.proofs.ChosenLemmas.{filter_map-map, filter_map-agree, flat_map-agree}
 use Rattle.vt_graph.proofs.SlotLemmas.{slot_at_stands, LeavesNumber, put_value_leaves, numbers_rise_with_value, ends_at_with_value}
 use Rattle.vt_graph.proofs.HadLemmas.{body_fits, values_rise_each, had_there, place_there}
 use Rattle.vt_graph.proofs.ObjectLemmas.{class_at_slot}

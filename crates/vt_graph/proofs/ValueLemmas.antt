@@ -14,7 +14,7 @@ use Rattle.vt_base.specs.declared.value.Value.{Value}
 use Rattle.vt_model.specs.Metamodel.{Metamodel}
 use Rattle.vt_model.specs.Assigning.{value_order, is_value_of}
 use Rattle.vt_model.specs.declared.model.AttributeValue.{AttributeValue}
-use Rattle.vt_model.proofs.MemberLemmas.{Contains-nil, Contains-find}
+use Rattle.vt_facts.proofs.MemberLemmas.{Contains-nil, Contains-find}
 use Rattle.vt_slots.specs.Values.{AttributesRise, attribute_order, place_of, value_in}
 use Rattle.vt_slots.specs.Slots.{slot_order, NumbersRise, slot_at, slot_value}
 use Rattle.vt_slots.specs.declared.values.Held.{Held}
@@ -23,8 +23,8 @@ use Rattle.vt_slots.specs.declared.slot.Slot.{Slot}
 use Rattle.vt_graph.specs.Inside.Indexed.{IsIndexed}
 use Rattle.vt_graph.specs.Inside.Stored.{attribute_value, body_values, model_of}
 use Rattle.vt_graph.specs.Asked.{value_at}
-use Rattle.vt_graph.proofs.RisingLemmas.{find_is, rises-none}
-use Rattle.vt_graph.proofs.ChosenLemmas.{Contains-flat_map, Contains-from_flat_map, Contains-filter_map, Contains-from_filter_map, rises-flat_map, rises-filter_map}
+use Rattle.vt_facts.proofs.RisingLemmas.{find_is, rises-none}
+use Rattle.vt_facts.proofs.ChosenLemmas.{Contains-flat_map, Contains-from_flat_map, Contains-filter_map, Contains-from_filter_map, rises-flat_map, rises-filter_map}
 use Rattle.vt_graph.proofs.SlotLemmas.{same_object, equal_numbers, slot_at_stands, slot_at_number, slot_at_is, body_at_found}
 use Rattle.vt_graph.proofs.HadLemmas.{ValuesRise, values_rise_each}
 

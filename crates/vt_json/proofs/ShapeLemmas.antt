@@ -7,7 +7,7 @@ use Rattle.serde_json.specs.declared.value.Value.{Value}
 use Rattle.serde_json.specs.View.{view, members_view}
 use Rattle.serde_json.specs.Data.{Data}
 use Rattle.vt_json.specs.Shape.{is_listed, keys_of, entries_in}
-use Rattle.vt_json.specs.Inside.Rest.{with_front}
+use Rattle.vt_facts.specs.Parts.{with_front}
 
 -- a test of each key of the map is a test of each key of the object
 pub listed_keys : (keys : List (List ℕ)) (entries : List (String Global × Value))

@@ -1,2 +1,1 @@
 -- No public clause cites a module below.
-pub mod Rest

@@ -4,7 +4,7 @@ use Rattle.std.specs.Char.{is_ascii_alphabetic, is_ascii_alphanumeric}
 use Rattle.std.specs.List.{list_all}
 use Rattle.serde_json.specs.Data.{Data}
 use Rattle.serde_json.specs.Find.{as_str}
-use Rattle.vt_json.specs.Shape.{◌>>=◌}
+use Rattle.vt_facts.specs.Parts.{◌>>=◌}
 
 -- an ASCII letter or `_`
 abbrev pub begins_name : ℕ → Bool

@@ -14,12 +14,6 @@ Reads (Ok x) there = there ≡ Some x
 Reads (Err BadShape) there = there ≡ None
 Reads (Err NoMemory) there = Unit {0}
 
--- one part after the other, and none where a part is none
-infixl 10 ◌>>=◌
-abbrev pub ◌>>=◌ : {A B : Type 0} → Option A → (A → Option B) → Option B
-None >>= rest = None
-(Some x) >>= rest = rest x
-
 -- ---- numbers and lists
 
 -- a whole number from 0 to 2^64 - 1

@@ -1,35 +1,29 @@
 -- The parts of the metamodel that a document makes.
-use Rattle.std.proofs.Common.{◌≡◌, ℕ, ◌+◌, List, [], ◌∷◌, ◌++◌, length, map, get_or, refl, sym, ap, subst, ◌∙◌, cond, Bool, true, false, arith, length-append}
-use Rattle.std.specs.Prelude.{◌<◌, ◌≤◌, All, Option, Some, None, option_and_then, option_map, nat_eq, nat_lt, sum_by, find}
-use Rattle.std.specs.Cmp.Lexicographic.{pointwise}
-use Rattle.std.proofs.lemmas.Bool.{ltb-false, ne_eqb}
+use Rattle.std.proofs.Common.{◌≡◌, ℕ, ◌+◌, List, [], ◌∷◌, length, map, refl, sym, ap, subst, ◌∙◌, cond, Bool, true, false, arith, length-append}
+use Rattle.std.specs.Prelude.{◌<◌, ◌≤◌, All, Option, Some, None, option_and_then, option_map, nat_lt, sum_by, find}
+use Rattle.std.proofs.lemmas.Bool.{ltb-false}
 use Rattle.std.proofs.lemmas.List.{length-map}
 use Rattle.std.proofs.lemmas.List.Elements.{All-nil, All-cons, All-append, All-map, All-weaker}
 use Rattle.std.proofs.lemmas.List.Sums.{sum_by-cons}
 use Rattle.vt_base.specs.declared.numbers.ClassId.{ClassId}
 use Rattle.vt_base.specs.declared.numbers.RefId.{RefId}
-use Rattle.vt_model.specs.Metamodel.{Metamodel, is_within, isa}
-use Rattle.vt_meta.specs.Declarations.{supers_in}
-use Rattle.vt_meta.specs.Built.{Declared, declared_by, metamodel_of, attributes_from, references_from, reference_number, enum_info, class_info, attr_info, ref_info}
+use Rattle.vt_meta.specs.Built.{Declared, declared_by, metamodel_of, attributes_from, references_from, reference_number, enum_info, attr_info, ref_info}
 use Rattle.vt_meta.specs.Faults.{above, or_else, feature_count, too_great}
 use Rattle.vt_meta.specs.Inside.Above.{supers_places}
-use Rattle.vt_model.specs.Above.{ids, AreThere}
 use Rattle.vt_model.specs.Metamodel.{as_metamodel}
 use Rattle.vt_model.specs.Sound.{IsSound}
 use Rattle.vt_meta.specs.Inside.Building.{declaration, declarations_from, is_declaration, number_in}
 use Rattle.vt_model.specs.declared.metamodel.Lists.{Lists}
-use Rattle.vt_model.specs.declared.metamodel.AttrInfo.{AttrInfo}
-use Rattle.vt_model.specs.declared.metamodel.RefInfo.{RefInfo}
 use Rattle.vt_model.specs.declared.metamodel.EnumInfo.{EnumInfo}
-use Rattle.vt_model.specs.declared.metamodel.ClassInfo.{ClassInfo}
 use Rattle.vt_meta.specs.declared.building.Declaration.{Declaration}
 use Rattle.vt_meta.specs.declared.document.EnumDocument.{EnumDocument}
 use Rattle.vt_meta.specs.declared.document.ClassDocument.{ClassDocument}
 use Rattle.vt_meta.specs.declared.document.AttributeDocument.{AttributeDocument}
 use Rattle.vt_meta.specs.declared.document.ReferenceDocument.{ReferenceDocument}
 use Rattle.vt_meta.specs.declared.document.MetamodelDocument.{MetamodelDocument}
-use Rattle.vt_model.proofs.PositionLemmas.{position-map}
-use Rattle.vt_meta.proofs.SupersLemmas.{length-supers_places, length_supers, there_supers, ids_supers_places}
+use Rattle.vt_facts.proofs.PositionLemmas.{position-map}
+use Rattle.vt_meta.proofs.SupersLemmas.{length-supers_places, there_supers}
+use Rattle.vt_facts.proofs.OptionLemmas.{option_map-None}
 
 -- ---- opposites
 
@@ -69,10 +63,6 @@ find-None p (x ∷ xs) e = by (p x) refl (λ later. find-None p xs later) e
     by : (b : Bool) → p x ≡ b → (find p xs ≡ None → All (λ x. p x ≡ false) xs) → cond b (Some x) (find p xs) ≡ None → All (λ x. p x ≡ false) (x ∷ xs)
     by true is rest e = cc
     by false is rest e = All-cons (λ x. p x ≡ false) x xs is (rest e)
-
-option_map-None : {X Y : Type 0} (f : X → Y) (r : Option X) → option_map f r ≡ None → r ≡ None
-option_map-None f None e = refl
-option_map-None f (Some x) e = cc
 
 -- a document with no count that is too great
 module _ (document : MetamodelDocument) (e : too_great document ≡ None) where

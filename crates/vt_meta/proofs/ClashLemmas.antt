@@ -1,22 +1,21 @@
 -- The features of a class, counted by the classes above it.
-use Rattle.std.proofs.Common.{◌≡◌, ℕ, zero, suc, ◌+◌, ◌≤◌, ◌<◌, List, [], ◌∷◌, ◌++◌, length, map, filter, refl, sym, ap, subst, ◌∙◌, cond, Bool, true, false, ⊎_elim, arith, add-zero, zero-add, add_assoc, add_comm}
-use Rattle.std.specs.Prelude.{◌&&◌, ◌||◌, ◌==◌, nat_eq, not, All, slice_get, Option, Some, None}
-use Rattle.std.specs.List.{list_any, flat_map, sum_by, IsDistinct, AllByRecursion}
+use Rattle.std.proofs.Common.{◌≡◌, ℕ, zero, suc, ◌+◌, ◌≤◌, ◌<◌, List, [], ◌∷◌, ◌++◌, length, map, filter, refl, sym, ap, subst, ◌∙◌, cond, Bool, true, false, arith}
+use Rattle.std.specs.Prelude.{◌&&◌, ◌||◌, nat_eq, not, All, slice_get, Option, Some, None}
+use Rattle.std.specs.List.{list_any, sum_by, IsDistinct, AllByRecursion}
 use Rattle.std.specs.Option.{option_map_or}
-use Rattle.std.specs.Cmp.Lexicographic.{nat_list_eq_equiv}
-use Rattle.std.proofs.lemmas.Bool.{and_parts, or_parts, or_from, not-true, not_from_false, eqb-true, eqb-false, ne_eqb, true≢false, cases_lt}
-use Rattle.std.proofs.lemmas.List.{map-append, length-map, append-nil}
+use Rattle.std.proofs.lemmas.Bool.{and_parts, or_parts, or_from, not-true, not_from_false, eqb-true, eqb-false, ne_eqb}
+use Rattle.std.proofs.lemmas.List.{map-append, length-map}
 use Rattle.std.proofs.lemmas.List.Sums.{sum_by-cons}
 use Rattle.std.proofs.lemmas.List.Elements.{filter-append, All-head, All-tail}
 use Rattle.std.proofs.lemmas.Map.Keys.{IsDistinct-head, IsDistinct-tail}
 use Rattle.vt_base.specs.declared.numbers.ClassId.{ClassId}
 use Rattle.vt_model.specs.Metamodel.{isa, is_within, feature_names}
 use Rattle.vt_meta.specs.Declarations.{declared_names, supers_in}
-use Rattle.vt_model.specs.Words.{is_name, is_distinct}
+use Rattle.vt_facts.specs.Names.{is_name, is_distinct}
 use Rattle.vt_meta.specs.Built.{Declared, declared_by, attributes_from, references_from, attr_info, ref_info, class_info, metamodel_of}
 use Rattle.vt_meta.specs.Faults.{has_clash}
 use Rattle.vt_meta.specs.Inside.Above.{supers_places}
-use Rattle.vt_model.specs.Above.{class_id, ids, is_above_any, IsAbove}
+use Rattle.vt_model.specs.Above.{class_id, ids, IsAbove}
 use Rattle.vt_meta.specs.Inside.Features.{names_at, names_at_each}
 use Rattle.vt_model.specs.declared.metamodel.AttrInfo.{AttrInfo}
 use Rattle.vt_model.specs.declared.metamodel.RefInfo.{RefInfo}
@@ -25,8 +24,9 @@ use Rattle.vt_meta.specs.declared.document.AttributeDocument.{AttributeDocument}
 use Rattle.vt_meta.specs.declared.document.ReferenceDocument.{ReferenceDocument}
 use Rattle.vt_meta.specs.declared.document.MetamodelDocument.{MetamodelDocument}
 use Rattle.vt_model.proofs.PlacesLemmas.{same_name, is_name-itself}
-use Rattle.vt_meta.proofs.SupersLemmas.{ids_supers_places, length-supers_places, length_supers}
+use Rattle.vt_meta.proofs.SupersLemmas.{ids_supers_places, length_supers}
 use Rattle.vt_model.proofs.AboveLemmas.{same_bool}
+use Rattle.vt_facts.proofs.BoolLemmas.{or-false}
 
 -- ---- how often a name stands in a list
 
@@ -198,10 +198,6 @@ module _ {F I : Type 0} (is : ClassId → Bool) (name : F → List ℕ) (info : 
         ∙ ap (λ k. cond (is (class_id n)) (g n) 0 + k) (counted-from (n + 1) cs g (λ j c' e. let next : n + 1 + j ≡ n + suc j = omega arith in ap g next ∙ agree (suc j) c' e))
 
 -- ---- the features of a class
-
-or-false : (b : Bool) → (b || false) ≡ b
-or-false true = refl
-or-false false = refl
 
 module _ (document : MetamodelDocument) where
   abbrev classes : List ClassDocument

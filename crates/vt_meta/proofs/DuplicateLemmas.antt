@@ -3,7 +3,7 @@ use Rattle.std.proofs.Common.{◌≡◌, ℕ, ◌+◌, List, [], ◌∷◌, ◌+
 use Rattle.std.specs.Prelude.{◌<◌, ◌||◌, position, is_some}
 use Rattle.std.proofs.lemmas.List.{length-append, length-map, get_or-map, get_or_append_left, get_or-append-add}
 use Rattle.vt_meta.specs.Declarations.{is_kind_name, item_names}
-use Rattle.vt_model.specs.Words.{is_name}
+use Rattle.vt_facts.specs.Names.{is_name}
 use Rattle.vt_meta.specs.Faults.{is_taken}
 use Rattle.vt_model.specs.Places.{place_in, FindsIn, AddsPlace}
 use Rattle.vt_model.specs.declared.places.Places.{Places}

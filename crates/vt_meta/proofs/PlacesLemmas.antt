@@ -8,14 +8,14 @@ use Rattle.std.specs.Cmp.Lexicographic.{pointwise, nat_list_eq_equiv}
 use Rattle.std.proofs.lemmas.Bool.{true≢false}
 use Rattle.std.proofs.lemmas.List.{take_more, length-take-le}
 use Rattle.std.proofs.lemmas.Slice.Eq.{bytes_eq-Decides}
-use Rattle.vt_model.specs.Words.{is_name}
+use Rattle.vt_facts.specs.Names.{is_name}
 use Rattle.vt_meta.specs.Inside.Places.{FindsEnum, FindsClass, FindEachReference, FindReferences}
 use Rattle.vt_model.specs.Places.{place_in, FindsIn, AddsPlace}
 use Rattle.vt_meta.specs.declared.document.EnumDocument.{EnumDocument}
 use Rattle.vt_meta.specs.declared.document.ClassDocument.{ClassDocument}
 use Rattle.vt_meta.specs.declared.document.ReferenceDocument.{ReferenceDocument}
 use Rattle.vt_model.specs.declared.places.Places.{Places}
-use Rattle.vt_model.proofs.PositionLemmas.{position-cons, position-map}
+use Rattle.vt_facts.proofs.PositionLemmas.{position-cons, position-map}
 
 -- ---- the names of a document
 

@@ -2,12 +2,12 @@
 use Rattle.std.proofs.Common.{◌≡◌, ℕ, List, length, take, get_or, refl, sym, ap, ◌∙◌}
 use Rattle.std.specs.Prelude.{find, position, slice_get, Option, Some, None, option_and_then}
 use Rattle.vt_meta.specs.Declarations.{class_place, class_at, declared_there}
-use Rattle.vt_model.specs.Words.{is_name}
+use Rattle.vt_facts.specs.Names.{is_name}
 use Rattle.vt_meta.specs.Inside.Places.{declared_at}
 use Rattle.vt_meta.specs.declared.document.ClassDocument.{ClassDocument}
 use Rattle.vt_meta.specs.declared.document.ReferenceDocument.{ReferenceDocument}
 use Rattle.vt_meta.specs.declared.document.MetamodelDocument.{MetamodelDocument}
-use Rattle.vt_model.proofs.PositionLemmas.{find_position}
+use Rattle.vt_facts.proofs.PositionLemmas.{find_position}
 
 module _ (document : MetamodelDocument) where
   abbrev place_at : ℕ → List ℕ → Option ℕ

@@ -17,7 +17,7 @@ use Rattle.vt_base.specs.declared.numbers.RefId.{RefId}
 use Rattle.vt_json.specs.Json.{json_of}
 use Rattle.vt_model.specs.Metamodel.{Metamodel, feature_names}
 use Rattle.vt_meta.specs.Document.{document_shape}
-use Rattle.vt_model.specs.Words.{is_distinct}
+use Rattle.vt_facts.specs.Names.{is_distinct}
 use Rattle.vt_meta.specs.Declarations.{class_number, supers_in}
 use Rattle.vt_meta.specs.Inside.Above.{supers_places}
 use Rattle.vt_meta.specs.Built.{Declared, metamodel_of, attributes_from, references_from, attr_info, ref_info, class_info}

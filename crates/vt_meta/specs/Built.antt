@@ -5,7 +5,7 @@ use Rattle.vt_base.specs.declared.numbers.ClassId.{ClassId}
 use Rattle.vt_base.specs.declared.numbers.RefId.{RefId}
 use Rattle.vt_model.specs.Metamodel.{Metamodel}
 use Rattle.vt_meta.specs.Declarations.{kind_named, class_number, supers_in}
-use Rattle.vt_model.specs.Words.{is_name}
+use Rattle.vt_facts.specs.Names.{is_name}
 use Rattle.vt_model.specs.declared.metamodel.EnumInfo.{EnumInfo}
 use Rattle.vt_model.specs.declared.metamodel.ClassInfo.{ClassInfo}
 use Rattle.vt_model.specs.declared.metamodel.AttrInfo.{AttrInfo}

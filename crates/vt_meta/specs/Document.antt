@@ -3,13 +3,14 @@ use Rattle.std.specs.Prelude.{◌&&◌, List, [], ◌∷◌, codes, Bool, false,
 use Rattle.std.specs.Option.{option_map_or}
 use Rattle.serde_json.specs.Data.{Data}
 use Rattle.serde_json.specs.Find.{as_str, as_bool}
-use Rattle.vt_json.specs.Shape.{◌>>=◌, has_only, required, defaulted, optional, list_of, whole_number}
+use Rattle.vt_json.specs.Shape.{has_only, required, defaulted, optional, list_of, whole_number}
 use Rattle.vt_json.specs.Names.{identifier}
 use Rattle.vt_meta.specs.declared.document.EnumDocument.{EnumDocument}
 use Rattle.vt_meta.specs.declared.document.ClassDocument.{ClassDocument}
 use Rattle.vt_meta.specs.declared.document.AttributeDocument.{AttributeDocument}
 use Rattle.vt_meta.specs.declared.document.ReferenceDocument.{ReferenceDocument}
 use Rattle.vt_meta.specs.declared.document.MetamodelDocument.{MetamodelDocument}
+use Rattle.vt_facts.specs.Parts.{◌>>=◌}
 
 -- at least one item
 abbrev pub some_of : {A : Type 0} → List A → Option (List A)

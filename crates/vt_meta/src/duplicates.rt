@@ -1,7 +1,7 @@
 // Names that stand twice: of items, of an enum's literals, of a class's own features.
 ghost use Rattle.std.specs.Prelude.{◌≡◌, ◌++◌, ◌||◌, [], IfOk, OnOk, map, take, length, is_some, not, false, None};
 ghost use Rattle.vt_meta.specs.Declarations.{is_kind_name, item_names, declared_names};
-ghost use Rattle.vt_model.specs.Words.{is_distinct};
+ghost use Rattle.vt_facts.specs.Names.{is_distinct};
 ghost use Rattle.vt_meta.specs.Faults.{first_place, is_bad_enum, is_bad_class, duplicate_place};
 ghost use Rattle.vt_model.specs.Places.{place_in, FindsIn, AddsPlace};
 

@@ -6,10 +6,10 @@ use Rattle.std.specs.Cmp.Lexicographic.{pointwise, nat_list_eq_equiv}
 use Rattle.std.proofs.lemmas.Bool.{and_cases, and_left, and_right, or_left, not-false, not_from_true}
 use Rattle.std.proofs.lemmas.List.{take_more, take-append-drop}
 use Rattle.std.proofs.lemmas.List.Folds.{list_any-append}
-use Rattle.vt_model.specs.Words.{is_name, is_distinct}
+use Rattle.vt_facts.specs.Names.{is_name, is_distinct}
 use Rattle.vt_model.specs.Places.{place_in, FindsIn}
 use Rattle.vt_model.specs.declared.places.Places.{Places}
-use Rattle.vt_model.proofs.PositionLemmas.{position-cons}
+use Rattle.vt_facts.proofs.PositionLemmas.{position-cons}
 
 -- a search finds where something is to be found
 pub is_some-position : {X : Type 0} (p : X → Bool) (xs : List X) → is_some (position p xs) ≡ list_any p xs

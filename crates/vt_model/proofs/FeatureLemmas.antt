@@ -12,7 +12,7 @@ use Rattle.std.proofs.lemmas.Option.{slice_get-get_or, slice_get_past, same_Some
 use Rattle.indexmap.specs.IndexMap.{IndexMap, get}
 use Rattle.vt_base.specs.declared.numbers.ClassId.{ClassId}
 use Rattle.vt_model.specs.Metamodel.{Metamodel, as_metamodel, is_within, isa, feature, or_reference, is_attribute_of, is_reference_of}
-use Rattle.vt_model.specs.Words.{is_name}
+use Rattle.vt_facts.specs.Names.{is_name}
 use Rattle.vt_model.specs.Places.{place_in, FindsIn}
 use Rattle.vt_model.specs.Inside.Tables.{is_marked, MarksAbove}
 use Rattle.vt_model.specs.Inside.FeatureTable.{all_names, name_number, attribute_entries, reference_entries, all_entries, is_entry_of, first_entry, feature_if, kept_at, KeepsFirst, feature_in, FindsFeatures, AreFeatures}
@@ -25,12 +25,12 @@ use Rattle.vt_model.specs.declared.metamodel.Feature.{Feature}
 use Rattle.vt_model.specs.declared.metamodel.Feature.TheVariants.{Attr, Ref}
 use Rattle.vt_model.specs.declared.features.Entry.{Entry}
 use Rattle.vt_model.specs.declared.features.Features.{Features}
-use Rattle.vt_model.proofs.PositionLemmas.{position-cons, position_agree, IsAt, IsAt-position}
+use Rattle.vt_facts.proofs.PositionLemmas.{position-cons, position_agree, IsAt, IsAt-position}
 use Rattle.vt_model.proofs.PlacesLemmas.{same_name, is_name-itself}
 use Rattle.vt_model.proofs.DistinctLemmas.{is_some-position}
 use Rattle.vt_model.proofs.AboveLemmas.{same_bool}
 use Rattle.vt_model.proofs.TableLemmas.{alone_of_classes}
-use Rattle.vt_model.proofs.MapLemmas.{list_any-map}
+use Rattle.vt_facts.proofs.MapLemmas.{list_any-map}
 
 -- ---- one more entry, one more row
 

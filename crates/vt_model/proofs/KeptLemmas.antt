@@ -16,7 +16,7 @@ use Rattle.vt_base.specs.declared.numbers.ClassId.{ClassId}
 use Rattle.vt_base.specs.declared.numbers.AttrId.{AttrId}
 use Rattle.vt_base.specs.declared.value.Value.{Value}
 use Rattle.vt_base.specs.declared.value.Kind.{Kind}
-use Rattle.vt_model.specs.Words.{◌>>=◌}
+use Rattle.vt_facts.specs.Parts.{◌>>=◌}
 use Rattle.vt_model.specs.Metamodel.{Metamodel, class_named}
 use Rattle.vt_model.specs.Model.{Model, object_named, feature_at}
 use Rattle.vt_model.specs.Creating.{new_number, default_value, created}
@@ -36,7 +36,7 @@ use Rattle.vt_model.specs.declared.model.Link.{Link}
 use Rattle.vt_model.specs.declared.change.Change.{Change}
 use Rattle.vt_model.specs.declared.change.Change.TheVariants.{Create, Delete, Set, Unset, Link as LinkChange, Unlink, Move}
 use Rattle.vt_model.specs.declared.change.Refusal.{Refusal}
-use Rattle.vt_model.proofs.MemberLemmas.{Contains-nil, Contains-head, Contains-behind, Contains-cons_cases, Contains-filter, Contains-insert_key_old}
+use Rattle.vt_facts.proofs.MemberLemmas.{Contains-nil, Contains-head, Contains-behind, Contains-cons_cases, Contains-filter, Contains-insert_key_old}
 use Rattle.vt_model.proofs.Valid.Gone.{gone_of}
 use Rattle.vt_model.proofs.Valid.ObjectEffect.{new_number-above}
 use Rattle.vt_model.proofs.Valid.Passing.{refusal-effect}

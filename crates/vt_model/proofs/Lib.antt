@@ -1,5 +1,3 @@
-pub mod OrderedLemmas
-pub mod MemberLemmas
 pub mod MapLemmas
 pub mod PositionLemmas
 pub mod PlacesLemmas

@@ -8,13 +8,13 @@ use Rattle.std.specs.Cmp.Lexicographic.{pointwise, nat_list_eq_equiv}
 use Rattle.std.proofs.lemmas.Bool.{true≢false}
 use Rattle.std.proofs.lemmas.List.{take_more, length-take-le}
 use Rattle.std.proofs.lemmas.Slice.Eq.{bytes_eq-Decides}
-use Rattle.vt_model.specs.Words.{is_name}
+use Rattle.vt_facts.specs.Names.{is_name}
 use Rattle.vt_model.specs.Places.{place_in, FindsIn, AddsPlace}
 use Rattle.vt_model.specs.Inside.Tables.{FindsEnumInfo, FindsClassInfo}
 use Rattle.vt_model.specs.declared.places.Places.{Places}
 use Rattle.vt_model.specs.declared.metamodel.EnumInfo.{EnumInfo}
 use Rattle.vt_model.specs.declared.metamodel.ClassInfo.{ClassInfo}
-use Rattle.vt_model.proofs.PositionLemmas.{position-cons, position-map}
+use Rattle.vt_facts.proofs.PositionLemmas.{position-cons, position-map}
 
 -- one name is the other
 pub same_name : (a b : List ℕ) → is_name a b ≡ true → a ≡ b

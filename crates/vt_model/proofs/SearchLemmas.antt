@@ -5,7 +5,7 @@ use Rattle.std.specs.List.{list_any, position_or_len}
 use Rattle.std.proofs.lemmas.Bool.{or_parts, lt-ltb}
 use Rattle.std.proofs.lemmas.Option.{same_Some, cond_some}
 use Rattle.std.proofs.lemmas.List.Quantifiers.{position-Some}
-use Rattle.vt_model.proofs.Valid.Counts.{count_by-yes, count_by-no}
+use Rattle.vt_facts.proofs.CountLemmas.{count_by-yes, count_by-no}
 
 -- ---- in lists that are made of others
 

@@ -1,6 +1,6 @@
 -- The tables of a metamodel hold what the definitions say.
-use Rattle.std.proofs.Common.{◌≡◌, ℕ, ◌+◌, List, [], ◌∷◌, length, map, get_or, refl, sym, ap, subst, ◌∙◌, ◌⊎◌, inl, inr, ⊎_elim, Bool, true, false, arith}
-use Rattle.std.specs.Prelude.{◌<◌, ◌≤◌, ◌||◌, ◌==◌, nat_eq, All, Contains, slice_get, unwrap_or, Option, Some, None}
+use Rattle.std.proofs.Common.{◌≡◌, ℕ, List, [], ◌∷◌, length, map, refl, sym, ap, subst, ◌∙◌, ◌⊎◌, inl, inr, ⊎_elim, Bool, true, false, arith}
+use Rattle.std.specs.Prelude.{◌<◌, ◌≤◌, ◌==◌, nat_eq, All, Contains, slice_get, unwrap_or, Option, Some, None}
 use Rattle.std.specs.List.{list_any, range_with_len}
 use Rattle.std.specs.Option.{option_map_or}
 use Rattle.std.proofs.lemmas.Bool.{cases_lt, false_from_ne_true, eqb-true, eq-eqb}
@@ -10,14 +10,11 @@ use Rattle.std.proofs.lemmas.List.Elements.{All-contains, All-map, All-weaker}
 use Rattle.std.proofs.lemmas.Option.{slice_get-get_or, slice_get_past}
 use Rattle.vt_base.specs.declared.numbers.ClassId.{ClassId}
 use Rattle.vt_model.specs.Metamodel.{IsPath, is_within, supers_of}
-use Rattle.vt_model.specs.Above.{class_id, ids, class_places, places, supers_at, AreThere, is_above_any, IsAbove}
-use Rattle.vt_model.specs.Inside.Tables.{above_row, above_table, is_marked, MarksAbove}
+use Rattle.vt_model.specs.Above.{class_id, ids, class_places, places, supers_at, AreThere, IsAbove}
+use Rattle.vt_model.specs.Inside.Tables.{above_row, above_table, MarksAbove}
 use Rattle.vt_model.proofs.IsaLemmas.{same_number, path-is_within, is_within-path, below-supers_of}
 use Rattle.vt_model.proofs.AboveLemmas.{same_bool, supers_of-ids, there-ids}
-
-or-false : (b : Bool) → (b || false) ≡ b
-or-false true = refl
-or-false false = refl
+use Rattle.vt_facts.proofs.BoolLemmas.{or-false}
 
 -- the marks of the classes that a walk has come to
 pub row_is : (supers : List (List ℕ)) (c : ℕ) (keys : List ℕ) → IsAbove supers (c ∷ []) keys

@@ -1,7 +1,6 @@
 -- Each change that isn't refused leaves a valid model valid.
 pub mod Sides
 pub mod Empty
-pub mod Counts
 pub mod Names
 pub mod Gone
 pub mod Found

@@ -8,7 +8,7 @@ use Rattle.vt_base.specs.declared.value.Value.TheVariants as value
 use Rattle.vt_base.specs.declared.value.Kind.{Kind}
 use Rattle.vt_base.specs.declared.value.Kind.TheVariants as kind
 use Rattle.vt_model.specs.Metamodel.{Metamodel, isa}
-use Rattle.vt_model.specs.Words.{is_name}
+use Rattle.vt_facts.specs.Names.{is_name}
 use Rattle.vt_model.specs.Model.{Model, object_named, gone_named}
 use Rattle.vt_model.specs.declared.metamodel.AttrInfo.{AttrInfo}
 use Rattle.vt_model.specs.declared.model.AttributeValue.{AttributeValue}

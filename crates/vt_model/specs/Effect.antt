@@ -1,7 +1,6 @@
 -- What a change does to a model, or why it is refused.
-use Rattle.std.specs.Prelude.{ℕ, ◌||◌, List, [], ◌∷◌, Bool, true, false, not, nat_le, is_none, Option, Some, None, option_map, option_and_then, unwrap_or, Result, Ok, Err}
+use Rattle.std.specs.Prelude.{ℕ, ◌||◌, List, [], ◌∷◌, Bool, false, not, nat_le, is_none, Option, Some, None, option_map, option_and_then, unwrap_or, Result, Ok, Err}
 use Rattle.std.specs.Option.{option_map_or}
-use Rattle.vt_model.specs.Words.{◌>>=◌}
 use Rattle.vt_model.specs.Metamodel.{Metamodel, class_named}
 use Rattle.vt_model.specs.Model.{Model, object_named, never_existed, was_deleted, feature_at}
 use Rattle.vt_model.specs.Creating.{is_abstract, is_taken, new_number, is_reserved, default_value, created}
@@ -14,12 +13,7 @@ use Rattle.vt_model.specs.declared.change.Change.{Change}
 use Rattle.vt_model.specs.declared.change.Change.TheVariants.{Create, Delete, Set, Unset, Link as LinkChange, Unlink, Move}
 use Rattle.vt_model.specs.declared.change.Refusal.{Refusal}
 use Rattle.vt_model.specs.declared.change.Refusal.TheVariants.{UnknownObject, Gone, UnknownClass, AbstractClass, NameTaken, ReservedName, UnknownFeature, WrongKind, WrongValue, WrongTarget, ContainmentCycle, TooManyObjects}
-
--- the first whose test holds
-abbrev pub first_of : List (Bool × Refusal) → Option Refusal
-first_of [] = None
-first_of ((true, why) ∷ rest) = Some why
-first_of ((false, why) ∷ rest) = first_of rest
+use Rattle.vt_facts.specs.Firsts.{first_of}
 
 -- the link that three names ask for
 abbrev pub link_asked : Metamodel → Model → List ℕ → List ℕ → List ℕ → Option Link

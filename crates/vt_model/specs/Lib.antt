@@ -1,5 +1,4 @@
 -- what the contracts say, in reading order
-pub mod Words
 pub mod Metamodel
 pub mod Sound
 pub mod Model

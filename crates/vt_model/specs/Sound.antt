@@ -6,7 +6,7 @@ use Rattle.vt_base.specs.declared.numbers.RefId.{RefId}
 use Rattle.vt_base.specs.declared.value.Kind.{Kind}
 use Rattle.vt_base.specs.declared.value.Kind.TheVariants.{Int, Bool, Text, Enum, Obj}
 use Rattle.vt_model.specs.Metamodel.{Metamodel, feature_names}
-use Rattle.vt_model.specs.Words.{is_distinct}
+use Rattle.vt_facts.specs.Names.{is_distinct}
 use Rattle.vt_model.specs.Assigning.{is_literal}
 use Rattle.vt_model.specs.declared.metamodel.AttrInfo.{AttrInfo}
 use Rattle.vt_model.specs.declared.metamodel.RefInfo.{RefInfo}

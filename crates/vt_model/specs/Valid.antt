@@ -5,7 +5,7 @@ use Rattle.std.specs.declared.cmp.Ordering.{Ordering}
 use Rattle.std.specs.Ordering.{nat_cmp}
 use Rattle.vt_base.specs.declared.numbers.ObjId.{ObjId}
 use Rattle.vt_model.specs.Metamodel.{Metamodel}
-use Rattle.vt_model.specs.Words.{is_distinct}
+use Rattle.vt_facts.specs.Names.{is_distinct}
 use Rattle.vt_model.specs.Model.{Model}
 use Rattle.vt_model.specs.Creating.{is_reserved}
 use Rattle.vt_model.specs.Assigning.{value_order}

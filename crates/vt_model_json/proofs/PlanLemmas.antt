@@ -7,15 +7,15 @@ use Rattle.serde_json.specs.Data.{Members, no_members}
 use Rattle.vt_base.specs.declared.numbers.ObjId.{ObjId}
 use Rattle.vt_base.specs.declared.numbers.ClassId.{ClassId}
 use Rattle.vt_base.specs.declared.numbers.RefId.{RefId}
-use Rattle.vt_meta.specs.Metamodel.{Metamodel, isa}
-use Rattle.vt_meta.specs.Model.{Model}
-use Rattle.vt_meta.specs.Fits.{FitsReference}
-use Rattle.vt_meta.specs.Valid.{IsValid, IsConcrete}
-use Rattle.vt_meta.specs.declared.metamodel.ClassInfo.{ClassInfo}
-use Rattle.vt_meta.specs.declared.metamodel.RefInfo.{RefInfo}
-use Rattle.vt_meta.specs.declared.model.Object.{Object}
-use Rattle.vt_meta.specs.declared.model.Link.{Link}
-use Rattle.vt_meta.proofs.MemberLemmas.{Contains-filter, Contains-from_filter, Contains-find}
+use Rattle.vt_model.specs.Metamodel.{Metamodel, isa}
+use Rattle.vt_model.specs.Model.{Model}
+use Rattle.vt_model.specs.Fits.{FitsReference}
+use Rattle.vt_model.specs.Valid.{IsValid, IsConcrete}
+use Rattle.vt_model.specs.declared.metamodel.ClassInfo.{ClassInfo}
+use Rattle.vt_model.specs.declared.metamodel.RefInfo.{RefInfo}
+use Rattle.vt_model.specs.declared.model.Object.{Object}
+use Rattle.vt_model.specs.declared.model.Link.{Link}
+use Rattle.vt_facts.proofs.MemberLemmas.{Contains-filter, Contains-from_filter, Contains-find}
 use Rattle.vt_graph.specs.Asked.{live_at, class_at}
 use Rattle.vt_store.proofs.Linking.Lists.{filter-none}
 use Rattle.vt_store.proofs.Linking.Live.{live_at_is}

@@ -1,6 +1,6 @@
 // The difference of a model from the empty one.
 ghost use Rattle.std.specs.Prelude.{◌≡◌, ◌<◌, length, IfOk};
-ghost use Rattle.vt_meta.specs.Base.{base_of};
+ghost use Rattle.vt_model.specs.Base.{base_of};
 ghost use Rattle.vt_model_json.specs.Difference.{IsAllAdded, AreAllAdded, IsFromEmpty};
 ghost use Rattle.vt_model_json.specs.Inside.Parts.{count_of, rows_of};
 

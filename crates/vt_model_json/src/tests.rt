@@ -1,6 +1,6 @@
 //! Documents with the answer that each must give, and the rows of the models that they make.
 ghost use Rattle.std.specs.Prelude.{IfOk};
-ghost use Rattle.vt_meta.specs.Sound.{IsSound};
+ghost use Rattle.vt_model.specs.Sound.{IsSound};
 
 use crate::{ModelFault, read_model, write_model};
 use std::alloc::Global;

@@ -8,7 +8,7 @@ use Rattle.std.proofs.lemmas.List.Kept.{IsStrictlySortedBy-filter}
 use Rattle.std.proofs.lemmas.Map.Views.{All-insert_key}
 use Rattle.vt_base.specs.declared.numbers.ObjId.{ObjId}
 use Rattle.vt_base.specs.declared.numbers.RefId.{RefId}
-use Rattle.vt_model.proofs.OrderedLemmas.{IsStrictlySortedBy-insert_key}
+use Rattle.vt_facts.proofs.OrderedLemmas.{IsStrictlySortedBy-insert_key}
 use Rattle.vt_slots.specs.Ends.{EndList, number_order, ObjectsRise, reference_order, ReferencesRise, list_of, objects_of, capacity_of, AddsEnd, DropsEnd, SameEnds, KeepsRoom, SameRoom}
 use Rattle.vt_slots.specs.Inside.Place.{StandsAt, GoesAt}
 use Rattle.vt_slots.proofs.PlaceLemmas.{find_stands, find_goes, find_set_same, find_set_other, find_insert_same, find_insert_other, insert_goes, key_stands, sorted_alike, map_set_alike}

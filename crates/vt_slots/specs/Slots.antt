@@ -7,7 +7,7 @@ use Rattle.vt_base.specs.declared.numbers.ObjId.{ObjId}
 use Rattle.vt_base.specs.declared.numbers.AttrId.{AttrId}
 use Rattle.vt_base.specs.declared.numbers.ClassId.{ClassId}
 use Rattle.vt_base.specs.declared.value.Value.{Value}
-use Rattle.vt_model.specs.Words.{is_name, is_distinct}
+use Rattle.vt_facts.specs.Names.{is_name, is_distinct}
 use Rattle.vt_slots.specs.Values.{value_in, with_held}
 use Rattle.vt_slots.specs.Ends.{EndList}
 use Rattle.vt_slots.specs.declared.slot.Side.{Side}

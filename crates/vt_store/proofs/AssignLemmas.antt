@@ -18,8 +18,8 @@ use Rattle.vt_base.specs.declared.value.Value.{Value}
 use Rattle.vt_model.specs.Model.{Model}
 use Rattle.vt_model.specs.Assigning.{value_order, is_value_of, without_value, with_value, with_default_value}
 use Rattle.vt_model.specs.declared.model.AttributeValue.{AttributeValue}
-use Rattle.vt_model.proofs.MemberLemmas.{Contains-nil, Contains-head, Contains-find, find-some, Contains-filter, Contains-from_filter, Contains-insert_key_cases, Contains-insert_key_old}
-use Rattle.vt_model.proofs.OrderedLemmas.{IsStrictlySortedBy-insert_key}
+use Rattle.vt_facts.proofs.MemberLemmas.{Contains-nil, Contains-head, Contains-find, find-some, Contains-filter, Contains-from_filter, Contains-insert_key_cases, Contains-insert_key_old}
+use Rattle.vt_facts.proofs.OrderedLemmas.{IsStrictlySortedBy-insert_key}
 use Rattle.vt_model.proofs.Valid.Defaults.{is_value_of-yes}
 use Rattle.vt_graph.specs.Asked.{value_at}
 use Rattle.vt_store.specs.Edits.{ListChange, same_object, same_gone, same_value, same_link, net, edit_of}
@@ -28,7 +28,7 @@ use Rattle.vt_store.specs.Inside.Assigned.{same_given, held_value, value_change,
 use Rattle.vt_store.proofs.EditLemmas.{known}
 use Rattle.vt_store.proofs.NetLemmas.{rises-one, Contains-one, net-same, net-is}
 use Rattle.vt_store.proofs.SameLemmas.{Decides-same_object, Decides-same_gone, Decides-same_value, Decides-same_link}
-use Rattle.vt_graph.proofs.RisingLemmas.{tied_is, Contains-insert_key_there, rises-none}
+use Rattle.vt_facts.proofs.RisingLemmas.{tied_is, Contains-insert_key_there, rises-none}
 use Rattle.vt_graph.proofs.ValueLemmas.{value_order_total}
 
 -- ---- the same value

@@ -9,7 +9,7 @@ use Rattle.vt_model.specs.Metamodel.{Metamodel, feature}
 use Rattle.vt_model.specs.Model.{Model, object_named, never_existed, was_deleted}
 use Rattle.vt_model.specs.Assigning.{attribute_of, kind_asked, has_kind, value_given, with_default_value}
 use Rattle.vt_model.specs.Creating.{default_value}
-use Rattle.vt_model.specs.Effect.{first_of, effect}
+use Rattle.vt_model.specs.Effect.{effect}
 use Rattle.vt_model.specs.Valid.{IsValid}
 use Rattle.vt_model.specs.declared.metamodel.Feature.{Feature}
 use Rattle.vt_model.specs.declared.model.Object.{Object}
@@ -17,7 +17,7 @@ use Rattle.vt_model.specs.declared.change.Given.{Given}
 use Rattle.vt_model.specs.declared.change.Change.TheVariants.{Set, Unset}
 use Rattle.vt_model.specs.declared.change.Refusal.{Refusal}
 use Rattle.vt_model.specs.declared.change.Refusal.TheVariants.{UnknownObject, Gone, UnknownFeature, WrongKind, WrongValue}
-use Rattle.vt_model.proofs.MemberLemmas.{Contains-find}
+use Rattle.vt_facts.specs.Firsts.{first_of}
 use Rattle.vt_model.proofs.Valid.Found.{HasAttribute-feature}
 use Rattle.vt_graph.specs.Having.{HasAttribute}
 use Rattle.vt_store.specs.declared.naming.Named.{Named}
@@ -31,6 +31,7 @@ use Rattle.vt_store.specs.Inside.Assigned.{value_change, values_edit}
 use Rattle.vt_store.proofs.AssignLemmas.{edit_of-assigned}
 use Rattle.vt_store.proofs.FitLemmas.{fits_made}
 use Rattle.vt_store.proofs.Linking.Live.{live_at_there}
+use Rattle.vt_facts.proofs.MemberLemmas.{Contains-find}
 
 -- ---- refusals
 

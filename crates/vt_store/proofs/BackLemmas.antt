@@ -12,7 +12,7 @@ use Rattle.vt_model.specs.Valid.{IsValid}
 use Rattle.vt_model.specs.declared.change.Change.{Change}
 use Rattle.vt_model.specs.declared.change.Refusal.{Refusal}
 use Rattle.vt_model.specs.declared.model.Object.{Object}
-use Rattle.vt_model.proofs.MemberLemmas.{Contains-find, find-some}
+use Rattle.vt_facts.proofs.MemberLemmas.{Contains-find, find-some}
 use Rattle.vt_slots.specs.Ends.{capacity_of}
 use Rattle.vt_slots.specs.declared.slot.Side.{Side}
 use Rattle.vt_graph.specs.Held.{Held, Place}

@@ -1,8 +1,8 @@
 -- What creating an object puts into a model.
 use Rattle.std.proofs.Common.{◌++◌, ◌≡◌, ℕ, List, [], ◌∷◌, refl, sym, ap, subst, ◌∙◌, arith}
 use Rattle.std.specs.Prelude.{◌<◌, ◌≤◌, length, position, option_map, Option, None, Some, All, Contains}
-use Rattle.vt_model.specs.Words.{is_name}
-use Rattle.vt_model.proofs.PositionLemmas.{IsAt-position}
+use Rattle.vt_facts.specs.Names.{is_name}
+use Rattle.vt_facts.proofs.PositionLemmas.{IsAt-position}
 use Rattle.vt_graph.specs.Held.{Held, Place}
 use Rattle.vt_graph.specs.Room.{KeepsRoom, HasRoom}
 use Rattle.vt_store.specs.Undoing.{HeldEdit, KeepsRoomOf, Fits}

@@ -8,7 +8,7 @@ use Rattle.std.specs.List.Sorted.{IsStrictlySortedBy}
 use Rattle.std.specs.declared.cmp.Ordering.{Ordering}
 use Rattle.std.proofs.lemmas.List.Kept.{IsStrictlySortedBy-filter}
 use Rattle.std.proofs.lemmas.Map.Views.{Contains-from_any}
-use Rattle.vt_model.proofs.MemberLemmas.{Contains-nil, Contains-cons_cases, Contains-filter, Contains-from_filter}
+use Rattle.vt_facts.proofs.MemberLemmas.{Contains-nil, Contains-cons_cases, Contains-filter, Contains-from_filter}
 use Rattle.vt_store.specs.Edits.{without, net, TellsApart, undone_list}
 use Rattle.vt_store.proofs.RisingLemmas.{inserted_is}
 

@@ -2,7 +2,7 @@
 use Rattle.std.proofs.Common.{◌≡◌, List, [], ◌∷◌, refl, sym, ap, subst, true, false, cond, is_some}
 use Rattle.std.specs.Prelude.{◌==◌, fold, filter, Contains, IsSome, Option, Some, None, option_map, option_and_then, unwrap_or, Ok}
 use Rattle.std.proofs.lemmas.Bool.{true≢false}
-use Rattle.vt_json.specs.Shape.{◌>>=◌}
+use Rattle.vt_facts.specs.Parts.{◌>>=◌}
 use Rattle.vt_model.specs.Metamodel.{Metamodel, class_named}
 use Rattle.vt_model.specs.Model.{Model, object_named, feature_at}
 use Rattle.vt_model.specs.Creating.{created, new_number, default_value}
@@ -16,7 +16,7 @@ use Rattle.vt_model.specs.declared.model.GoneObject.{GoneObject}
 use Rattle.vt_model.specs.declared.change.Change.{Change}
 use Rattle.vt_model.specs.declared.change.Change.TheVariants as change
 use Rattle.vt_model.specs.declared.change.Refusal.{Refusal}
-use Rattle.vt_model.proofs.MemberLemmas.{Contains-find, find-some, Contains-insert_key_old}
+use Rattle.vt_facts.proofs.MemberLemmas.{Contains-find, find-some, Contains-insert_key_old}
 use Rattle.vt_base.specs.declared.numbers.ObjId.{ObjId}
 use Rattle.vt_base.specs.declared.numbers.AttrId.{AttrId}
 use Rattle.vt_base.specs.declared.value.Kind.{Kind}

@@ -6,7 +6,7 @@ use Rattle.vt_model.specs.Metamodel.{Metamodel}
 use Rattle.vt_model.specs.Model.{Model}
 use Rattle.vt_model.specs.Linking.{linked, relinked, unlinked, oriented, stands}
 use Rattle.vt_model.specs.Containing.{closes_cycle}
-use Rattle.vt_model.specs.Effect.{first_of, refusal, unless_refused, link_asked, effect}
+use Rattle.vt_model.specs.Effect.{unless_refused, link_asked, effect}
 use Rattle.vt_model.specs.Sound.{IsSound}
 use Rattle.vt_model.specs.Valid.{IsValid}
 use Rattle.vt_model.specs.declared.model.Link.{Link}
@@ -21,21 +21,9 @@ use Rattle.vt_store.specs.Undoing.{Fits, HeldEdit, KeepsRoomOf}
 use Rattle.vt_store.specs.Inside.Asking.{link_tests, move_tests, link_effect}
 use Rattle.vt_store.proofs.EditLemmas.{net-tells_apart}
 use Rattle.vt_store.proofs.SameLemmas.{Decides-same_object}
-use Rattle.vt_store.proofs.FitLemmas.{IsMade, fits_made}
-
--- ---- tests in a row
-
--- the first that applies of some is the first of these and more
-pub first_of-some : (tests more : List (Bool × Refusal)) (why : Refusal) → first_of tests ≡ Some why → first_of (tests ++ more) ≡ Some why
-first_of-some [] more why some = cc
-first_of-some ((true, x) ∷ tests) more why some = some
-first_of-some ((false, x) ∷ tests) more why some = first_of-some tests more why some
-
--- where none of them applies, the rest is tested
-pub first_of-none : (tests more : List (Bool × Refusal)) → first_of tests ≡ None → first_of (tests ++ more) ≡ first_of more
-first_of-none [] more none = refl
-first_of-none ((true, x) ∷ tests) more none = cc
-first_of-none ((false, x) ∷ tests) more none = first_of-none tests more none
+use Rattle.vt_store.proofs.FitLemmas.{fits_made}
+use Rattle.vt_facts.specs.Firsts.{first_of}
+use Rattle.vt_facts.proofs.FirstLemmas.{first_of-some, first_of-none}
 
 -- ---- changes of links
 

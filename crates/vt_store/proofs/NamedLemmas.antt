@@ -5,12 +5,12 @@ use Rattle.std.specs.Cmp.Lexicographic.{bytes_decides}
 use Rattle.vt_base.specs.declared.numbers.ObjId.{ObjId}
 use Rattle.vt_base.specs.declared.numbers.ClassId.{ClassId}
 use Rattle.vt_model.specs.Metamodel.{Metamodel}
-use Rattle.vt_model.specs.Words.{is_name}
+use Rattle.vt_facts.specs.Names.{is_name}
 use Rattle.vt_model.specs.Model.{Model, object_named, gone_named}
 use Rattle.vt_model.specs.Valid.{IsValid}
 use Rattle.vt_model.specs.declared.model.Object.{Object}
 use Rattle.vt_model.specs.declared.model.GoneObject.{GoneObject}
-use Rattle.vt_model.proofs.MemberLemmas.{Contains-find}
+use Rattle.vt_facts.proofs.MemberLemmas.{Contains-find}
 use Rattle.vt_graph.specs.Asked.{seen_of, seen_live, seen_gone, class_at}
 use Rattle.vt_graph.specs.declared.seen.Seen.{Seen}
 use Rattle.vt_graph.specs.declared.seen.Seen.TheVariants as seen

@@ -5,7 +5,7 @@ use Rattle.std.specs.BTreeSet.{insert_key}
 use Rattle.std.specs.declared.cmp.Ordering.{Ordering}
 use Rattle.std.specs.Ordering.{eq_by_cmp}
 use Rattle.vt_base.specs.Order.{value_cmp}
-use Rattle.vt_model.specs.Words.{is_name}
+use Rattle.vt_facts.specs.Names.{is_name}
 use Rattle.vt_model.specs.Model.{Model}
 use Rattle.vt_model.specs.Assigning.{value_order}
 use Rattle.vt_model.specs.Linking.{link_order, is_link}

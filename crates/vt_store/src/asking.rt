@@ -2,12 +2,13 @@
 ghost use Rattle.std.specs.Prelude.{◌≡◌, [], ◌∷◌, IfOk, IfErr, Some, None, is_none};
 ghost use Rattle.vt_model.specs.Metamodel.{feature};
 ghost use Rattle.vt_model.specs.Linking.{reference_of, is_target};
-ghost use Rattle.vt_model.specs.Effect.{first_of, link_asked};
+ghost use Rattle.vt_model.specs.Effect.{link_asked};
 ghost use Rattle.vt_model.specs.Fits.{FitsReference};
 ghost use Rattle.vt_model.specs.Valid.{IsValid};
 ghost use Rattle.vt_model.specs.declared.change.Refusal.TheVariants as refusal;
 ghost use Rattle.vt_model.specs.declared.model.Object.{Object};
 ghost use Rattle.vt_store.specs.Inside.Asking.{link_tests, move_tests};
+ghost use Rattle.vt_facts.specs.Firsts.{first_of};
 
 use crate::naming::{Named, both_live};
 use crate::references::is_containment;

@@ -1,10 +1,10 @@
 // The values that changes give to attributes.
 ghost use Rattle.std.specs.Prelude.{◌≡◌, ◌<◌, [], ◌∷◌, IfOk, IfErr, IfSome, Some, is_none, not, option_map, position, true};
 ghost use Rattle.std.specs.Option.{option_copied};
-ghost use Rattle.vt_model.specs.Words.{is_name};
+ghost use Rattle.vt_facts.specs.Names.{is_name};
 ghost use Rattle.vt_model.specs.Assigning.{attribute_of, kind_asked, is_literal, literal_named, has_kind, value_given};
 ghost use Rattle.vt_model.specs.Creating.{default_value};
-ghost use Rattle.vt_model.specs.Effect.{first_of};
+ghost use Rattle.vt_facts.specs.Firsts.{first_of};
 ghost use Rattle.vt_model.specs.declared.change.Refusal.TheVariants.{WrongKind, WrongValue};
 ghost use Rattle.vt_store.specs.Inside.Assigned.{same_given};
 

@@ -10,12 +10,13 @@ use Rattle.vt_text.specs.declared.token.TokenKind.{TokenKind}
 use Rattle.vt_text.specs.declared.token.TokenKind.TheVariants.{Word, Blank, Number, Quoted, Mark}
 use Rattle.vt_text.specs.declared.piece.Opening.{Opening}
 use Rattle.vt_text.specs.declared.piece.Opening.TheVariants.{Letter, Digit, Quote, Return, Space, Other}
-use Rattle.vt_text.proofs.TestLemmas.{both_true, either_false, eq_is, not_true, found_item, same_text}
+use Rattle.vt_text.proofs.TestLemmas.{both_true, either_false, eq_is, found_item, same_text}
 use Rattle.vt_text.proofs.FrontLemmas.{digits_go_on, prefix_exact, Opens, opens, opening-letter, opening-digit, Sound}
 use Rattle.vt_text.proofs.WordLemmas.{sound-word, numeral_exact, sound-number}
 use Rattle.vt_text.proofs.StringLemmas.{string_sound, sound-string, string_exact}
 use Rattle.vt_text.proofs.CommentLemmas.{IsOpen, comment_exact}
 use Rattle.vt_text.proofs.MarkLemmas.{opens_comment_is, no_long_mark, sound-mark}
+use Rattle.vt_facts.proofs.BoolLemmas.{not_true}
 
 -- All pieces.
 

@@ -8,7 +8,8 @@ use Rattle.vt_text.specs.Inside.Scan.{opening}
 use Rattle.vt_text.specs.declared.piece.Opening.{Opening}
 use Rattle.vt_text.specs.declared.piece.Opening.TheVariants.{Letter, Digit, Quote, Return, Space, Other}
 use Rattle.vt_text.specs.declared.piece.Cut.{Cut}
-use Rattle.vt_text.proofs.TestLemmas.{both_true, or_right, eq_is}
+use Rattle.vt_text.proofs.TestLemmas.{both_true, eq_is}
+use Rattle.vt_facts.proofs.BoolLemmas.{or_right}
 
 -- Runs.
 

@@ -5,7 +5,7 @@ use Rattle.std.specs.List.{AllByRecursion}
 use Rattle.std.specs.Cmp.Lexicographic.{pointwise}
 use Rattle.std.proofs.lemmas.List.Elements.{All-from_recursion, All-append}
 use Rattle.vt_base.specs.declared.numbers.ClassId.{ClassId}
-use Rattle.vt_json.specs.Shape.{◌>>=◌}
+use Rattle.vt_facts.specs.Parts.{◌>>=◌}
 use Rattle.vt_model.specs.Base.{counts_of}
 use Rattle.vt_model.specs.Metamodel.{Metamodel, class_named, feature, or_reference, is_attribute_of, is_reference_of}
 use Rattle.vt_model.specs.declared.metamodel.Feature.{Feature}

@@ -3,7 +3,7 @@ use Rattle.std.proofs.Common.{ℕ, ◌≡◌, ◌<◌, ◌&&◌, ◌||◌, ◌�
 use Rattle.std.specs.Prelude.{option_and_then}
 use Rattle.std.specs.List.{AllByRecursion, position_or_len}
 use Rattle.std.proofs.lemmas.Bool.{ltb-true, false≢true}
-use Rattle.vt_json.specs.Shape.{◌>>=◌}
+use Rattle.vt_facts.specs.Parts.{◌>>=◌}
 use Rattle.vt_vql.specs.Resolving.{all_of}
 
 -- ---- tests

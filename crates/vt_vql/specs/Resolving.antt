@@ -5,9 +5,9 @@ use Rattle.vt_base.specs.declared.numbers.AttrId.{AttrId}
 use Rattle.vt_base.specs.declared.numbers.ClassId.{ClassId}
 use Rattle.vt_base.specs.declared.value.Kind.{Kind}
 use Rattle.vt_base.specs.declared.value.Kind.TheVariants as kind
-use Rattle.vt_json.specs.Shape.{◌>>=◌}
+use Rattle.vt_facts.specs.Parts.{◌>>=◌}
 use Rattle.vt_model.specs.Metamodel.{Metamodel, class_named, feature}
-use Rattle.vt_model.specs.Words.{is_distinct}
+use Rattle.vt_facts.specs.Names.{is_distinct}
 use Rattle.vt_model.specs.declared.metamodel.Feature.{Feature}
 use Rattle.vt_model.specs.declared.metamodel.Feature.TheVariants as a_feature
 use Rattle.vt_query.specs.declared.program.Program.{Program}

@@ -4,7 +4,8 @@ ghost use Rattle.vt_model.specs.Metamodel.{class_named, feature};
 ghost use Rattle.vt_query.specs.declared.program.Term.TheVariants.{Var};
 ghost use Rattle.vt_vql.specs.Scope.{with_constraint, with_constraints};
 ghost use Rattle.vt_vql.specs.Resolving.{all_of, type_of, param_of, declared, declared_from, with_feature, constraint_of, constraints_from, scope_of, pattern_of};
-ghost use Rattle.vt_vql.specs.Inside.Resolved.{Makes, with_front};
+ghost use Rattle.vt_vql.specs.Inside.Resolved.{Makes};
+ghost use Rattle.vt_facts.specs.Parts.{with_front};
 
 use crate::fault::Stuck;
 use crate::scope::{scope_of, variable};

@@ -3,7 +3,7 @@ use Rattle.std.proofs.Common.{◌≡◌, ℕ, List, refl, subst, Result, Ok, Err
 use Rattle.std.specs.Prelude.{Contains, ◌==◌}
 use Rattle.std.specs.Result.{is_ok}
 use Rattle.vt_base.specs.declared.numbers.ObjId.{ObjId}
-use Rattle.vt_model.proofs.MemberLemmas.{Contains-find, find-some}
+use Rattle.vt_facts.proofs.MemberLemmas.{Contains-find, find-some}
 use Rattle.vt_slots.specs.Inside.Place.{StandsAt, GoesAt, IsPlace}
 use Rattle.vt_slots.proofs.PlaceLemmas.{find_stands, find_goes}
 use Rattle.vt_slots.proofs.EndsLemmas.{object_number}

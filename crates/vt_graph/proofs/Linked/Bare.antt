@@ -7,9 +7,9 @@ use Rattle.vt_base.specs.declared.numbers.ObjId.{ObjId}
 use Rattle.vt_base.specs.declared.numbers.ClassId.{ClassId}
 use Rattle.vt_base.specs.declared.numbers.RefId.{RefId}
 use Rattle.vt_model.specs.Metamodel.{Metamodel, isa}
-use Rattle.vt_model.specs.Words.{is_distinct}
+use Rattle.vt_facts.specs.Names.{is_distinct}
 use Rattle.vt_model.specs.declared.model.Link.{Link}
-use Rattle.vt_model.proofs.MemberLemmas.{Contains-map, All-from_contains}
+use Rattle.vt_facts.proofs.MemberLemmas.{Contains-map, All-from_contains, Contains-from_map}
 use Rattle.vt_slots.specs.Ends.{ObjectsRise, reference_order, capacity_of}
 use Rattle.vt_slots.specs.Slots.{NumbersRise, NamesDiffer, slot_at, body_at, ends_on, ends_at, bare, bare_body}
 use Rattle.vt_slots.specs.declared.slot.Side.{Side}
@@ -23,10 +23,10 @@ use Rattle.vt_graph.specs.Inside.Stored.{live_object, gone_if_none, gone_object,
 use Rattle.vt_graph.specs.Inside.Planned.{listing, AreListings}
 use Rattle.vt_graph.specs.Inside.Indexed.{IsBodyOf, IsSlot, IsTwoEnded, IsIndexed}
 use Rattle.vt_graph.specs.Inside.Ended.{EndsRise, AllEndsRise, AllEndsFit, AllKeepRoom}
-use Rattle.vt_graph.proofs.RisingLemmas.{rises-none}
-use Rattle.vt_graph.proofs.ChosenLemmas.{filter_map-map, filter_map-agree, flat_map-agree, find-map}
+use Rattle.vt_facts.proofs.RisingLemmas.{rises-none}
+use Rattle.vt_facts.proofs.ChosenLemmas.{filter_map-map, filter_map-agree, flat_map-agree, find-map}
 use Rattle.vt_graph.proofs.SlotLemmas.{slot_at_changed, slot_at_stands, ends_at_body, ends_at_none}
-use Rattle.vt_graph.proofs.Linked.Stored.{Contains-from_map, all_links, slot_of_body, ends_of_slot}
+use Rattle.vt_graph.proofs.Linked.Stored.{all_links, slot_of_body, ends_of_slot}
 
 -- ---- a word that doesn't see the ends
 

@@ -8,8 +8,8 @@ use Rattle.vt_base.specs.declared.numbers.ObjId.{ObjId}
 use Rattle.vt_base.specs.declared.numbers.RefId.{RefId}
 use Rattle.vt_model.specs.Linking.{link_order, is_link}
 use Rattle.vt_model.specs.declared.model.Link.{Link}
-use Rattle.vt_model.proofs.MemberLemmas.{Contains-filter, Contains-from_filter, Contains-insert_key_cases, Contains-insert_key_old, Contains-insert_key_new}
-use Rattle.vt_model.proofs.OrderedLemmas.{IsStrictlySortedBy-insert_key}
+use Rattle.vt_facts.proofs.MemberLemmas.{Contains-filter, Contains-from_filter, Contains-insert_key_cases, Contains-insert_key_old, Contains-insert_key_new}
+use Rattle.vt_facts.proofs.OrderedLemmas.{IsStrictlySortedBy-insert_key}
 use Rattle.vt_slots.specs.Ends.{objects_of}
 use Rattle.vt_slots.specs.Slots.{NumbersRise, ends_at}
 use Rattle.vt_slots.specs.declared.slot.Side.{Side}
@@ -18,7 +18,7 @@ use Rattle.vt_slots.specs.declared.slot.Slot.{Slot}
 use Rattle.vt_graph.specs.Asked.{other_of}
 use Rattle.vt_graph.specs.Inside.Indexed.{IsTwoEnded}
 use Rattle.vt_graph.specs.Inside.Ended.{AllEndsRise, near_of, AddsLink, DropsLink, SameObjects}
-use Rattle.vt_graph.proofs.RisingLemmas.{same_items}
+use Rattle.vt_facts.proofs.RisingLemmas.{same_items}
 use Rattle.vt_graph.proofs.SlotLemmas.{same_object, equal_numbers}
 use Rattle.vt_graph.proofs.Linked.Ends.{same_reference, added_cases, added_old, added_new, dropped_cases, dropped_old}
 use Rattle.vt_graph.proofs.Linked.Stored.{same_ends, link_order_total, link_order-Equal, all_links, link_listed, listed_link, links_rise}

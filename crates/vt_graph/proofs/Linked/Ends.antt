@@ -10,11 +10,11 @@ use Rattle.std.proofs.lemmas.Cmp.{on_total, tied_itself}
 use Rattle.std.proofs.lemmas.List.Elements.{All-contains}
 use Rattle.vt_base.specs.declared.numbers.ObjId.{ObjId}
 use Rattle.vt_base.specs.declared.numbers.RefId.{RefId}
-use Rattle.vt_model.proofs.MemberLemmas.{Contains-nil, Contains-filter, Contains-from_filter, Contains-find, Contains-insert_key_cases, Contains-insert_key_old, Contains-insert_key_new}
+use Rattle.vt_facts.proofs.MemberLemmas.{Contains-nil, Contains-filter, Contains-from_filter, Contains-find, Contains-insert_key_cases, Contains-insert_key_old, Contains-insert_key_new}
 use Rattle.vt_slots.specs.Ends.{EndList, number_order, ObjectsRise, reference_order, list_of, objects_of, AddsEnd, DropsEnd}
 use Rattle.vt_slots.proofs.EndsLemmas.{reference_number, object_number}
 use Rattle.vt_graph.specs.Inside.Ended.{EndsRise}
-use Rattle.vt_graph.proofs.RisingLemmas.{rises-none, find_is}
+use Rattle.vt_facts.proofs.RisingLemmas.{rises-none, find_is}
 use Rattle.vt_graph.proofs.SlotLemmas.{same_object, equal_numbers}
 
 -- ---- numbers

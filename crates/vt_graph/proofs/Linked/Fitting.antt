@@ -6,7 +6,7 @@ use Rattle.vt_base.specs.declared.numbers.ObjId.{ObjId}
 use Rattle.vt_base.specs.declared.numbers.ClassId.{ClassId}
 use Rattle.vt_base.specs.declared.numbers.RefId.{RefId}
 use Rattle.vt_model.specs.Metamodel.{Metamodel}
-use Rattle.vt_model.proofs.MemberLemmas.{Contains-find}
+use Rattle.vt_facts.proofs.MemberLemmas.{Contains-find}
 use Rattle.vt_slots.specs.Ends.{EndList, list_of, objects_of, capacity_of}
 use Rattle.vt_slots.specs.Slots.{slot_at, ends_at}
 use Rattle.vt_slots.specs.declared.slot.Body.{Body}

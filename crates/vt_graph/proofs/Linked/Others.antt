@@ -12,7 +12,7 @@ use Rattle.vt_base.specs.declared.numbers.ObjId.{ObjId}
 use Rattle.vt_base.specs.declared.numbers.RefId.{RefId}
 use Rattle.vt_model.specs.Linking.{link_order}
 use Rattle.vt_model.specs.declared.model.Link.{Link}
-use Rattle.vt_model.proofs.MemberLemmas.{Contains-head, Contains-behind, Contains-map, Contains-filter, Contains-from_filter}
+use Rattle.vt_facts.proofs.MemberLemmas.{Contains-head, Contains-behind, Contains-map, Contains-filter, Contains-from_filter, Contains-from_map}
 use Rattle.vt_slots.specs.Ends.{number_order, objects_of}
 use Rattle.vt_slots.specs.Slots.{NumbersRise, ends_at}
 use Rattle.vt_slots.specs.declared.slot.Side.{Side}
@@ -21,10 +21,10 @@ use Rattle.vt_slots.specs.declared.slot.Slot.{Slot}
 use Rattle.vt_graph.specs.Asked.{is_at, other_of}
 use Rattle.vt_graph.specs.Inside.Indexed.{IsTwoEnded}
 use Rattle.vt_graph.specs.Inside.Ended.{AllEndsRise, near_of}
-use Rattle.vt_graph.proofs.RisingLemmas.{rises-none, rises-cons, first_below, rest_rises, same_items}
+use Rattle.vt_facts.proofs.RisingLemmas.{rises-none, rises-cons, first_below, rest_rises, same_items}
 use Rattle.vt_graph.proofs.SlotLemmas.{same_object, equal_numbers}
 use Rattle.vt_graph.proofs.Linked.Ends.{same_reference, number_order_total, objects_of_rise}
-use Rattle.vt_graph.proofs.Linked.Stored.{from_to, same_ends, Contains-from_map, all_links, link_listed, listed_link, links_rise}
+use Rattle.vt_graph.proofs.Linked.Stored.{from_to, same_ends, all_links, link_listed, listed_link, links_rise}
 
 -- ---- a list whose items are changed
 

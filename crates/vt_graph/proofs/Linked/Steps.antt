@@ -7,7 +7,7 @@ use Rattle.std.proofs.lemmas.Bool.{not_from_false}
 use Rattle.vt_base.specs.declared.numbers.ObjId.{ObjId}
 use Rattle.vt_base.specs.declared.numbers.RefId.{RefId}
 use Rattle.vt_model.specs.declared.model.Link.{Link}
-use Rattle.vt_model.proofs.MemberLemmas.{Contains-filter, Contains-from_filter, Contains-insert_key_cases, Contains-insert_key_old}
+use Rattle.vt_facts.proofs.MemberLemmas.{Contains-filter, Contains-from_filter, Contains-insert_key_cases, Contains-insert_key_old}
 use Rattle.vt_slots.specs.Ends.{EndList, number_order, ObjectsRise, objects_of, AddsEnd, DropsEnd, SameEnds, KeepsRoom, SameRoom}
 use Rattle.vt_slots.specs.Slots.{slot_at, body_at, ends_at, bare, bare_body, OtherEndsStay}
 use Rattle.vt_slots.specs.declared.slot.Side.{Side}
@@ -18,7 +18,7 @@ use Rattle.vt_slots.proofs.EndsLemmas.{rise_with_object, rise_without_object}
 use Rattle.vt_graph.specs.Asked.{other_of}
 use Rattle.vt_graph.specs.Inside.Indexed.{IsTwoEnded}
 use Rattle.vt_graph.specs.Inside.Ended.{EndsRise, AllEndsRise, EndsFit, AllEndsFit, near_of, ChangesEnds, AddsLink, SameObjects, AllKeepRoom}
-use Rattle.vt_graph.proofs.RisingLemmas.{same_items}
+use Rattle.vt_facts.proofs.RisingLemmas.{same_items}
 use Rattle.vt_graph.proofs.SlotLemmas.{same_object, slot_at_changed}
 use Rattle.vt_graph.proofs.Linked.Ends.{number_order_total, objects_of_rise, reference_cases}
 use Rattle.vt_graph.proofs.Linked.Changed.{object_cases}

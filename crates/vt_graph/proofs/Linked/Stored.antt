@@ -1,19 +1,18 @@
 -- The links of a model are those that stand at their sources' outgoing ends, and they rise.
-use Rattle.std.proofs.Common.{◌≡◌, ℕ, List, [], ◌∷◌, map, refl, sym, ap, subst, ◌∙◌, Option, Some, None, option_and_then, arith, inl, inr}
+use Rattle.std.proofs.Common.{◌≡◌, List, [], ◌∷◌, map, refl, sym, ap, subst, ◌∙◌, Option, Some, None, option_and_then}
 use Rattle.std.specs.Prelude.{Contains}
 use Rattle.std.specs.List.{flat_map}
 use Rattle.std.specs.List.Sorted.{IsStrictlySortedBy}
 use Rattle.std.specs.Cmp.{IsTotalOrder, nat_cmp_total}
 use Rattle.std.specs.Ordering.{nat_cmp, ordering_then}
 use Rattle.std.specs.declared.cmp.Ordering.TheVariants.{Less, Equal}
-use Rattle.std.proofs.lemmas.Bool.Decides.{nat_tests}
 use Rattle.std.proofs.lemmas.Cmp.{then_total, on_total, tied_itself}
 use Rattle.std.proofs.lemmas.List.Elements.{All-contains}
 use Rattle.vt_base.specs.declared.numbers.ObjId.{ObjId}
 use Rattle.vt_base.specs.declared.numbers.RefId.{RefId}
 use Rattle.vt_model.specs.Linking.{link_order}
 use Rattle.vt_model.specs.declared.model.Link.{Link}
-use Rattle.vt_model.proofs.MemberLemmas.{Contains-nil, Contains-head, Contains-behind, Contains-cons_cases, Contains-map}
+use Rattle.vt_facts.proofs.MemberLemmas.{Contains-nil, Contains-map, Contains-from_map}
 use Rattle.vt_slots.specs.Ends.{EndList, number_order, ObjectsRise, reference_order, objects_of}
 use Rattle.vt_slots.specs.Slots.{slot_order, NumbersRise, slot_at, body_at, ends_on, ends_at}
 use Rattle.vt_slots.specs.declared.slot.Side.{Side}
@@ -22,10 +21,11 @@ use Rattle.vt_slots.specs.declared.slot.Body.{Body}
 use Rattle.vt_slots.specs.declared.slot.Slot.{Slot}
 use Rattle.vt_graph.specs.Inside.Stored.{list_links, body_links}
 use Rattle.vt_graph.specs.Inside.Ended.{EndsRise, AllEndsRise}
-use Rattle.vt_graph.proofs.RisingLemmas.{rises-none, rises-cons, first_below, rest_rises}
-use Rattle.vt_graph.proofs.ChosenLemmas.{Contains-flat_map, Contains-from_flat_map, rises-flat_map}
+use Rattle.vt_facts.proofs.RisingLemmas.{rises-none, rises-cons, first_below, rest_rises}
+use Rattle.vt_facts.proofs.ChosenLemmas.{Contains-flat_map, Contains-from_flat_map, rises-flat_map}
 use Rattle.vt_graph.proofs.SlotLemmas.{same_object, slot_at_stands, slot_at_number, slot_at_is, body_at_found, ends_at_body, ends_at_none}
 use Rattle.vt_graph.proofs.Linked.Ends.{same_reference, list_with, objects_of_is}
+use Rattle.vt_facts.proofs.NumberLemmas.{threes_Equal}
 
 -- ---- links
 
@@ -39,9 +39,6 @@ same_ends a b source reference target = λ i. record { source = source i; refere
 
 pub link_order_total : IsTotalOrder link_order
 link_order_total = then_total (on_total (λ l. l.source.0) nat_cmp_total) (then_total (on_total (λ l. l.reference.0) nat_cmp_total) (on_total (λ l. l.target.0) nat_cmp_total))
-
-threes_Equal : (a b c x y z : ℕ) → ordering_then (nat_cmp a x) (ordering_then (nat_cmp b y) (nat_cmp c z)) ≡ Equal → (a ≡ x) × (b ≡ y) × (c ≡ z)
-threes_Equal a b c x y z e = grind (arith, nat_tests)
 
 -- links that the order doesn't tell apart are the same
 pub link_order-Equal : (a b : Link) → link_order a b ≡ Equal → a ≡ b
@@ -67,14 +64,6 @@ below_by_target a b source reference less =
     ∙ ap (λ r. ordering_then r (nat_cmp a.target.0 b.target.0)) tied_too ∙ less
 
 -- ---- the links of a list and of a body
-
--- what stands in a list that is changed is an item that was changed
-pub Contains-from_map : {X Y : Type 0} (f : X → Y) (xs : List X) (y : Y) → Contains (map f xs) y → (x : X) × Contains xs x × (f x ≡ y)
-Contains-from_map f [] y there = absurd (Contains-nil y there)
-Contains-from_map f (w ∷ ws) y there = elim (Contains-cons_cases (f w) y (map f ws) there) [
-  | inl is ↦ (w, Contains-head w ws, is)
-  | inr later ↦ let rest = Contains-from_map f ws y later in (rest.0, Contains-behind w rest.0 ws rest.1, rest.2)
-]
 
 -- a link stands for the source, the reference and a target
 pub record IsOf (o : ObjId) (r : RefId) (targets : List ObjId) (link : Link) : Type 0 where

@@ -9,15 +9,15 @@ use Rattle.std.proofs.lemmas.Option.{same_Some}
 use Rattle.vt_base.specs.declared.numbers.ClassId.{ClassId}
 use Rattle.vt_base.specs.declared.numbers.RefId.{RefId}
 use Rattle.vt_meta.specs.Declarations.{is_kind_name, item_names, declared_names, class_place, class_at, class_number, declared_there, opposite_in, answers}
-use Rattle.vt_model.specs.Words.{is_name, is_distinct}
+use Rattle.vt_facts.specs.Names.{is_name, is_distinct}
 use Rattle.vt_meta.specs.Built.{Declared, references_from, reference_number, ref_info}
 use Rattle.vt_meta.specs.Faults.{is_taken, lacks_opposite}
 use Rattle.vt_meta.specs.declared.document.ClassDocument.{ClassDocument}
 use Rattle.vt_meta.specs.declared.document.ReferenceDocument.{ReferenceDocument}
 use Rattle.vt_meta.specs.declared.document.MetamodelDocument.{MetamodelDocument}
-use Rattle.vt_model.proofs.MemberLemmas.{Contains-find}
-use Rattle.vt_model.proofs.Valid.Counts.{count_by-map}
-use Rattle.vt_model.proofs.Valid.Found.{IsAt-position}
+use Rattle.vt_facts.proofs.MemberLemmas.{Contains-find}
+use Rattle.vt_facts.proofs.CountLemmas.{count_by-map}
+use Rattle.vt_facts.proofs.PositionLemmas.{IsAt-position}
 use Rattle.vt_model.proofs.Valid.Names.{is_name-itself}
 use Rattle.vt_model.proofs.SearchLemmas.{position-find, position-first, list_any-at, list_any-take_map, list_any-take_append, find-only}
 use Rattle.vt_meta.proofs.Sound.Flat.{IsOf, IsOf-references_from, is_named, times-references, count_by-references_from}

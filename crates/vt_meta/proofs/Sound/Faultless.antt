@@ -6,6 +6,7 @@ use Rattle.vt_meta.specs.Faults.{Fault, duplicate_name, unknown_type, super_cycl
 use Rattle.vt_meta.specs.declared.document.ClassDocument.{ClassDocument}
 use Rattle.vt_meta.specs.declared.document.MetamodelDocument.{MetamodelDocument}
 use Rattle.vt_meta.proofs.FirstLemmas.{first_place-at}
+use Rattle.vt_facts.proofs.OptionLemmas.{option_map-None}
 
 -- its name is its own and its features have different names, each of its references' opposites answers, and no feature clashes with one from above
 pub record IsFaultless (document : MetamodelDocument) : Type 0 where
@@ -23,11 +24,6 @@ first_of-None (Some fault) faults e = cc
 or_else-None : (first second : Option ℕ) → or_else first second ≡ None → (first ≡ None) × (second ≡ None)
 or_else-None None second e = (refl, e)
 or_else-None (Some n) second e = cc
-
--- what is changed wasn't there
-option_map-None : {A B : Type 0} (f : A → B) (o : Option A) → option_map f o ≡ None → o ≡ None
-option_map-None f None e = refl
-option_map-None f (Some x) e = cc
 
 -- a test that finds no class fails at each
 at_class-at : (document : MetamodelDocument) (test : ℕ → ClassDocument → Bool) (k : ℕ) (c : ClassDocument)

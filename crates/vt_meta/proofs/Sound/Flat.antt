@@ -3,11 +3,11 @@ use Rattle.std.proofs.Common.{◌≡◌, ℕ, suc, ◌+◌, List, [], ◌∷◌,
 use Rattle.std.specs.Prelude.{◌<◌, ◌≤◌, ◌≢◌, ◌&&◌, ◌==◌, slice_get, count_by, Some}
 use Rattle.std.proofs.lemmas.Bool.{and_left, ne_eqb, cases_eq}
 use Rattle.vt_meta.specs.Declarations.{declared_names}
-use Rattle.vt_model.specs.Words.{is_name, is_distinct}
+use Rattle.vt_facts.specs.Names.{is_name, is_distinct}
 use Rattle.vt_meta.specs.Built.{Declared, declared_by, references_from}
 use Rattle.vt_meta.specs.declared.document.ClassDocument.{ClassDocument}
 use Rattle.vt_meta.specs.declared.document.ReferenceDocument.{ReferenceDocument}
-use Rattle.vt_model.proofs.Valid.Counts.{count_by-no, count_by-append, count_by-cons}
+use Rattle.vt_facts.proofs.CountLemmas.{count_by-no, count_by-append, count_by-cons}
 use Rattle.vt_model.proofs.Valid.Names.{times, times-is_distinct}
 use Rattle.vt_model.proofs.SearchLemmas.{slice_get-from_map, slice_get-append_cases}
 

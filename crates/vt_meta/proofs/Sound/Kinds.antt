@@ -6,13 +6,13 @@ use Rattle.std.proofs.lemmas.Bool.{lt-ltb}
 use Rattle.std.proofs.lemmas.Option.{slice_get-map}
 use Rattle.vt_base.specs.declared.value.Kind.TheVariants.{Int, Bool as Boolean, Text, Enum}
 use Rattle.vt_meta.specs.Declarations.{kind_named}
-use Rattle.vt_model.specs.Words.{is_name}
+use Rattle.vt_facts.specs.Names.{is_name}
 use Rattle.vt_meta.specs.Built.{metamodel_of, enum_info}
 use Rattle.vt_model.specs.Assigning.{is_literal}
 use Rattle.vt_model.specs.Sound.{IsAttributeKind}
 use Rattle.vt_meta.specs.declared.document.MetamodelDocument.{MetamodelDocument}
 use Rattle.vt_model.specs.declared.metamodel.EnumInfo.{EnumInfo}
-use Rattle.vt_model.proofs.Valid.Found.{IsAt-position}
+use Rattle.vt_facts.proofs.PositionLemmas.{IsAt-position}
 use Rattle.vt_meta.specs.Inside.Literals.{HasLiterals}
 
 module _ (document : MetamodelDocument) (literals : HasLiterals document) where

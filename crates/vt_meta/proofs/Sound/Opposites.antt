@@ -6,7 +6,7 @@ use Rattle.std.proofs.lemmas.Bool.{or_parts, and_parts, and_from, not-true, both
 use Rattle.std.proofs.lemmas.Option.{same_Some, slice_get-map}
 use Rattle.vt_base.specs.declared.numbers.RefId.{RefId}
 use Rattle.vt_meta.specs.Declarations.{names_opposite, class_number, opposite_in}
-use Rattle.vt_model.specs.Words.{is_name}
+use Rattle.vt_facts.specs.Names.{is_name}
 use Rattle.vt_meta.specs.Built.{Declared, references_from, reference_number, ref_info, metamodel_of}
 use Rattle.vt_meta.specs.Faults.{is_bad_containment}
 use Rattle.vt_model.specs.Sound.{Answers}

@@ -4,13 +4,14 @@ use Rattle.std.specs.Prelude.{◌<◌, ◌&&◌, codes, slice_get, Option, Some,
 use Rattle.std.proofs.lemmas.Option.{same_Some}
 use Rattle.serde_json.specs.Data.{Data, Items, no_items, item}
 use Rattle.serde_json.specs.Find.{get, as_array, as_str}
-use Rattle.vt_json.specs.Shape.{◌>>=◌, has_only, required, defaulted, or_default, list_of, items_in}
+use Rattle.vt_json.specs.Shape.{has_only, required, defaulted, or_default, list_of, items_in}
 use Rattle.vt_json.specs.Names.{identifier}
 use Rattle.vt_meta.specs.Document.{some_of, enum_shape, class_shape, document_shape, has_format_one}
 use Rattle.vt_meta.specs.Inside.Literals.{HasLiterals}
 use Rattle.vt_meta.specs.declared.document.EnumDocument.{EnumDocument}
 use Rattle.vt_meta.specs.declared.document.ClassDocument.{ClassDocument}
 use Rattle.vt_meta.specs.declared.document.MetamodelDocument.{MetamodelDocument}
+use Rattle.vt_facts.specs.Parts.{◌>>=◌}
 
 -- ---- lists of one shape
 

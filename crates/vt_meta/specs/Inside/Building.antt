@@ -2,7 +2,7 @@
 use Rattle.std.specs.Prelude.{ℕ, ◌&&◌, ◌==◌, List, map, position, Bool, Option, option_map}
 use Rattle.vt_base.specs.declared.numbers.ClassId.{ClassId}
 use Rattle.vt_base.specs.declared.numbers.RefId.{RefId}
-use Rattle.vt_model.specs.Words.{is_name}
+use Rattle.vt_facts.specs.Names.{is_name}
 use Rattle.vt_meta.specs.Built.{Declared, references_from}
 use Rattle.vt_meta.specs.declared.building.Declaration.{Declaration}
 use Rattle.vt_meta.specs.declared.document.ReferenceDocument.{ReferenceDocument}

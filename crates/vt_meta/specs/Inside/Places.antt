@@ -1,7 +1,7 @@
 -- Names of a document by their places.
 use Rattle.std.specs.Prelude.{◌≡◌, ℕ, List, map, slice_get, find, position, option_and_then, Option}
 use Rattle.std.specs.List.{AllZip}
-use Rattle.vt_model.specs.Words.{is_name}
+use Rattle.vt_facts.specs.Names.{is_name}
 use Rattle.vt_model.specs.Places.{place_in, FindsIn}
 use Rattle.vt_model.specs.declared.places.Places.{Places}
 use Rattle.vt_meta.specs.declared.document.EnumDocument.{EnumDocument}

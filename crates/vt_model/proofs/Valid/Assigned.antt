@@ -20,9 +20,9 @@ use Rattle.vt_model.specs.Assigning.{value_order, is_value_of, without_value, wi
 use Rattle.vt_model.specs.Fits.{FitsAttribute, HasItsValues}
 use Rattle.vt_model.specs.declared.metamodel.AttrInfo.{AttrInfo}
 use Rattle.vt_model.specs.declared.model.AttributeValue.{AttributeValue}
-use Rattle.vt_model.proofs.OrderedLemmas.{IsStrictlySortedBy-insert_key}
+use Rattle.vt_facts.proofs.OrderedLemmas.{IsStrictlySortedBy-insert_key}
 use Rattle.vt_model.proofs.Valid.Sides.{ObjectSide}
-use Rattle.vt_model.proofs.Valid.Counts.{count_by-none, count_by-filter, count_by-insert_key}
+use Rattle.vt_facts.proofs.CountLemmas.{count_by-none, count_by-filter, count_by-insert_key}
 use Rattle.vt_model.proofs.Valid.Defaults.{is_value_of-yes}
 
 -- ---- orders and tests of values

@@ -13,7 +13,7 @@ use Rattle.vt_model.specs.Containing.{Holds, LeadsOver, IsIn, holder, is_within,
 use Rattle.vt_model.specs.Fits.{FitsReference}
 use Rattle.vt_model.specs.Valid.{IsOnlyContainer}
 use Rattle.vt_model.specs.declared.model.Link.{Link}
-use Rattle.vt_model.proofs.MemberLemmas.{Contains-find, find-some, Contains-map, Contains-cons_cases, Contains-nil, AreDifferent, length-different}
+use Rattle.vt_facts.proofs.MemberLemmas.{Contains-find, find-some, Contains-map, Contains-cons_cases, Contains-nil, AreDifferent, length-different}
 use Rattle.vt_model.proofs.Valid.Sides.{LinkSide}
 
 -- equal numbers are of one object

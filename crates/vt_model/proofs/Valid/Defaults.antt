@@ -15,7 +15,7 @@ use Rattle.vt_model.specs.Creating.{default_value, with_default, defaults_from}
 use Rattle.vt_model.specs.Assigning.{value_order, is_value_of}
 use Rattle.vt_model.specs.declared.metamodel.AttrInfo.{AttrInfo}
 use Rattle.vt_model.specs.declared.model.AttributeValue.{AttributeValue}
-use Rattle.vt_model.proofs.Valid.Counts.{count_by-yes, count_by-no, count_by-none}
+use Rattle.vt_facts.proofs.CountLemmas.{count_by-yes, count_by-no, count_by-none}
 
 -- ---- orders and tests of values
 

@@ -13,7 +13,7 @@ use Rattle.vt_model.specs.Fits.{FitsReference}
 use Rattle.vt_model.specs.Sound.{IsSound}
 use Rattle.vt_model.specs.declared.model.Object.{Object}
 use Rattle.vt_model.specs.declared.model.Link.{Link}
-use Rattle.vt_model.proofs.MemberLemmas.{Contains-filter}
+use Rattle.vt_facts.proofs.MemberLemmas.{Contains-filter}
 use Rattle.vt_model.proofs.Valid.Sides.{LinkSide}
 use Rattle.vt_model.proofs.Valid.Backs.{or_swap, IsBack-link_back}
 use Rattle.vt_model.proofs.Valid.FewerLinks.{FitsReference-stays, LinkSide-filter}

@@ -14,7 +14,7 @@ use Rattle.vt_model.specs.Fits.{IsLiveOf, FitsReference}
 use Rattle.vt_model.specs.Valid.{IsOnly, HasItsOpposite, IsOnlyContainer}
 use Rattle.vt_model.specs.declared.model.Object.{Object}
 use Rattle.vt_model.specs.declared.model.Link.{Link}
-use Rattle.vt_model.proofs.MemberLemmas.{Contains-filter, Contains-from_filter, All-from_contains}
+use Rattle.vt_facts.proofs.MemberLemmas.{Contains-filter, Contains-from_filter, All-from_contains}
 use Rattle.vt_model.proofs.Valid.Sides.{LinkSide}
 
 -- ---- live objects that stay

@@ -1,16 +1,15 @@
 -- What names find: live objects, classes, and the attributes of a class.
-use Rattle.std.proofs.Common.{◌≡◌, ℕ, List, [], ◌∷◌, length, get_or, refl, sym, subst, cond, Bool, true, false}
-use Rattle.std.specs.Prelude.{◌<◌, nat_lt, find, position, Contains, IsSomeAnd, slice_get, Option, Some, None, option_map, option_and_then}
+use Rattle.std.proofs.Common.{◌≡◌, ℕ, List, [], ◌∷◌, length, refl, sym, subst, cond, Bool, true, false}
+use Rattle.std.specs.Prelude.{nat_lt, find, position, Contains, IsSomeAnd, slice_get, Option, Some, None, option_map, option_and_then}
 use Rattle.std.specs.Option.{option_map_or}
 use Rattle.std.proofs.lemmas.Bool.{and_parts, lt-ltb}
 use Rattle.std.proofs.lemmas.List.Elements.{Contains-append_left, Contains-append_right, Contains-push}
-use Rattle.std.proofs.lemmas.List.Quantifiers.{position-Some}
-use Rattle.std.proofs.lemmas.Option.{slice_get-get_or, same_Some}
+use Rattle.std.proofs.lemmas.Option.{same_Some}
 use Rattle.vt_base.specs.declared.numbers.ClassId.{ClassId}
 use Rattle.vt_base.specs.declared.numbers.AttrId.{AttrId}
 use Rattle.vt_base.specs.declared.value.Kind.{Kind}
 use Rattle.vt_model.specs.Metamodel.{Metamodel, isa, class_named, feature, or_reference, is_attribute_of, is_reference_of}
-use Rattle.vt_model.specs.Words.{is_name}
+use Rattle.vt_facts.specs.Names.{is_name}
 use Rattle.vt_model.specs.Model.{Model, object_named}
 use Rattle.vt_model.specs.Creating.{is_abstract}
 use Rattle.vt_model.specs.Assigning.{attribute_of, kind_asked, is_literal, literal_named}
@@ -20,6 +19,7 @@ use Rattle.vt_model.specs.declared.metamodel.ClassInfo.{ClassInfo}
 use Rattle.vt_model.specs.declared.metamodel.AttrInfo.{AttrInfo}
 use Rattle.vt_model.specs.declared.metamodel.Feature.{Feature}
 use Rattle.vt_model.specs.declared.model.Object.{Object}
+use Rattle.vt_facts.proofs.PositionLemmas.{IsAt, IsAt-position}
 
 -- ---- in lists
 
@@ -31,20 +31,6 @@ Contains-find p (y ∷ ys) x e =
       | true ↦ λ same. let is : y ≡ x = cc in subst (λ z. Contains (y ∷ ys) z) is (Contains-append_left (y ∷ []) ys y (Contains-push [] y))
       | false ↦ λ later. Contains-append_right (y ∷ []) ys x (Contains-find p ys x later)
     ] e
-
--- what stands at a place that a search gives
-pub record IsAt {X : Type 0} (p : X → Bool) (xs : List X) (i : ℕ) : Type 0 where
-  pub item : X
-  pub there : slice_get xs i ≡ Some item
-  pub passes : p item ≡ true
-  pub in_range : i < length xs
-
--- the first place of one that passes
-pub IsAt-position : {X : Type 0} (p : X → Bool) (xs : List X) (i : ℕ) → position p xs ≡ Some i → IsAt p xs i
-IsAt-position p [] i e = cc
-IsAt-position p (x ∷ xs) i e =
-    let found = position-Some p (x ∷ xs) i x e in
-    record { item = get_or (x ∷ xs) i x; there = slice_get-get_or (x ∷ xs) i x found.0; passes = found.1; in_range = found.0 }
 
 -- ---- objects
 

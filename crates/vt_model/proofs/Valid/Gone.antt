@@ -9,8 +9,8 @@ use Rattle.std.proofs.lemmas.Map.Views.{All-insert_key}
 use Rattle.vt_model.specs.Deleting.{gone_order, with_gone}
 use Rattle.vt_model.specs.declared.model.Object.{Object}
 use Rattle.vt_model.specs.declared.model.GoneObject.{GoneObject}
-use Rattle.vt_model.proofs.OrderedLemmas.{IsStrictlySortedBy-insert_key}
-use Rattle.vt_model.proofs.Valid.Counts.{count_by-cons, count_by-insert_key-le}
+use Rattle.vt_facts.proofs.OrderedLemmas.{IsStrictlySortedBy-insert_key}
+use Rattle.vt_facts.proofs.CountLemmas.{count_by-cons, count_by-insert_key-le}
 
 -- what stays of an object
 abbrev pub gone_of : Object → GoneObject

@@ -3,11 +3,11 @@ use Rattle.std.proofs.Common.{◌≡◌, ℕ, List, refl, subst, true, false}
 use Rattle.std.specs.Prelude.{slice_get, position, Option, Some, None, option_and_then}
 use Rattle.std.specs.Option.{option_map_or}
 use Rattle.std.proofs.lemmas.Bool.{and_parts}
-use Rattle.vt_model.specs.Words.{◌>>=◌}
+use Rattle.vt_facts.specs.Parts.{◌>>=◌}
 use Rattle.vt_base.specs.declared.numbers.ClassId.{ClassId}
 use Rattle.vt_base.specs.declared.numbers.RefId.{RefId}
 use Rattle.vt_model.specs.Metamodel.{Metamodel, isa, feature, or_reference, is_attribute_of, is_reference_of}
-use Rattle.vt_model.specs.Words.{is_name}
+use Rattle.vt_facts.specs.Names.{is_name}
 use Rattle.vt_model.specs.Model.{Model, object_named, feature_at}
 use Rattle.vt_model.specs.Linking.{reference_of, is_target}
 use Rattle.vt_model.specs.Effect.{link_asked}
@@ -15,7 +15,8 @@ use Rattle.vt_model.specs.Fits.{IsLive, FitsReference}
 use Rattle.vt_model.specs.declared.metamodel.RefInfo.{RefInfo}
 use Rattle.vt_model.specs.declared.model.Object.{Object}
 use Rattle.vt_model.specs.declared.model.Link.{Link}
-use Rattle.vt_model.proofs.Valid.Found.{IsAt-position, IsLive-object_named}
+use Rattle.vt_model.proofs.Valid.Found.{IsLive-object_named}
+use Rattle.vt_facts.proofs.PositionLemmas.{IsAt-position}
 
 -- a class has a reference
 record HasReference (meta : Metamodel) (c : ClassId) (r : RefId) : Type 0 where

@@ -9,7 +9,7 @@ use Rattle.vt_base.specs.declared.numbers.ClassId.{ClassId}
 use Rattle.vt_base.specs.declared.numbers.AttrId.{AttrId}
 use Rattle.vt_base.specs.declared.value.Value.{Value}
 use Rattle.vt_base.specs.declared.value.Kind.{Kind}
-use Rattle.vt_model.specs.Words.{◌>>=◌}
+use Rattle.vt_facts.specs.Parts.{◌>>=◌}
 use Rattle.vt_model.specs.Metamodel.{Metamodel, class_named}
 use Rattle.vt_model.specs.Model.{Model, object_named, never_existed, was_deleted, feature_at}
 use Rattle.vt_model.specs.Creating.{new_number, default_value, created}

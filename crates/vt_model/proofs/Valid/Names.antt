@@ -4,10 +4,10 @@ use Rattle.std.specs.Prelude.{◌≤◌, not, count_by}
 use Rattle.std.specs.List.{list_any}
 use Rattle.std.proofs.lemmas.Bool.{and_parts, and_from, not-true, not_from_false}
 use Rattle.std.proofs.lemmas.Slice.Eq.{bytes_eq-Decides}
-use Rattle.vt_model.specs.Words.{is_name, is_distinct}
+use Rattle.vt_facts.specs.Names.{is_name, is_distinct}
 use Rattle.vt_model.specs.declared.model.Object.{Object}
 use Rattle.vt_model.specs.declared.model.GoneObject.{GoneObject}
-use Rattle.vt_model.proofs.Valid.Counts.{count_by-cons, count_by-append, count_by-map, count_by-list_any, list_any-count_by}
+use Rattle.vt_facts.proofs.CountLemmas.{count_by-cons, count_by-append, count_by-map, count_by-list_any, list_any-count_by}
 
 -- ---- is_name
 

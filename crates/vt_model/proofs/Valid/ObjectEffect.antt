@@ -7,7 +7,7 @@ use Rattle.vt_base.specs.declared.numbers.ClassId.{ClassId}
 use Rattle.vt_base.specs.declared.numbers.AttrId.{AttrId}
 use Rattle.vt_base.specs.declared.value.Value.{Value}
 use Rattle.vt_base.specs.declared.value.Kind.{Kind}
-use Rattle.vt_model.specs.Words.{◌>>=◌}
+use Rattle.vt_facts.specs.Parts.{◌>>=◌}
 use Rattle.vt_model.specs.Metamodel.{Metamodel, class_named, feature}
 use Rattle.vt_model.specs.Model.{Model, object_named, feature_at}
 use Rattle.vt_model.specs.Creating.{is_abstract, new_number, default_value, created}

@@ -10,7 +10,7 @@ use Rattle.std.proofs.lemmas.List.Kept.{IsStrictlySortedBy-filter}
 use Rattle.vt_base.specs.declared.numbers.ObjId.{ObjId}
 use Rattle.vt_base.specs.declared.numbers.ClassId.{ClassId}
 use Rattle.vt_model.specs.Metamodel.{Metamodel}
-use Rattle.vt_model.specs.Words.{is_name, is_distinct}
+use Rattle.vt_facts.specs.Names.{is_name, is_distinct}
 use Rattle.vt_model.specs.Model.{Model, object_named, gone_named}
 use Rattle.vt_model.specs.Creating.{is_taken, is_reserved, created}
 use Rattle.vt_model.specs.Deleting.{gone_order, with_gone}
@@ -18,9 +18,9 @@ use Rattle.vt_model.specs.Valid.{object_order, IsConcrete}
 use Rattle.vt_model.specs.declared.model.Object.{Object}
 use Rattle.vt_model.specs.declared.model.GoneObject.{GoneObject}
 use Rattle.vt_model.specs.declared.model.Link.{Link}
-use Rattle.vt_model.proofs.OrderedLemmas.{IsStrictlySortedBy-append}
+use Rattle.vt_facts.proofs.OrderedLemmas.{IsStrictlySortedBy-append}
 use Rattle.vt_model.proofs.Valid.Sides.{ObjectSide}
-use Rattle.vt_model.proofs.Valid.Counts.{count_by-cons, count_by-append, count_by-find, count_by-filter_both, All-filter_passes}
+use Rattle.vt_facts.proofs.CountLemmas.{count_by-cons, count_by-append, count_by-find, count_by-filter_both, All-filter_passes}
 use Rattle.vt_model.proofs.Valid.Names.{times, times-is_distinct, is_distinct-times, times-objects, same_name}
 use Rattle.vt_model.proofs.Valid.Gone.{IsStrictlySortedBy-with_gone, All-with_gone, count_by-with_gone}
 

@@ -7,12 +7,13 @@ use Rattle.vt_model.specs.Metamodel.{Metamodel, class_named}
 use Rattle.vt_model.specs.Model.{Model, feature_at, never_existed, was_deleted}
 use Rattle.vt_model.specs.Creating.{is_abstract, is_taken, new_number, is_reserved}
 use Rattle.vt_model.specs.Assigning.{kind_asked, has_kind}
-use Rattle.vt_model.specs.Effect.{first_of, refusal, changed, unless_refused, effect}
+use Rattle.vt_model.specs.Effect.{refusal, changed, unless_refused, effect}
 use Rattle.vt_model.specs.declared.change.Given.{Given}
 use Rattle.vt_model.specs.declared.change.Change.{Change}
 use Rattle.vt_model.specs.declared.change.Change.TheVariants.{Create, Set}
 use Rattle.vt_model.specs.declared.change.Refusal.{Refusal}
 use Rattle.vt_model.specs.declared.change.Refusal.TheVariants.{UnknownObject, Gone, UnknownClass, AbstractClass, NameTaken, ReservedName, UnknownFeature, WrongKind, TooManyObjects}
+use Rattle.vt_facts.specs.Firsts.{first_of}
 
 -- ---- first_of
 

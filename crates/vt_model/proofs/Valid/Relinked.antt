@@ -14,7 +14,7 @@ use Rattle.vt_model.specs.Fits.{FitsReference}
 use Rattle.vt_model.specs.Sound.{IsSound}
 use Rattle.vt_model.specs.Valid.{IsOnly, HasItsOpposite, IsOnlyContainer}
 use Rattle.vt_model.specs.declared.model.Link.{Link}
-use Rattle.vt_model.proofs.MemberLemmas.{Contains-filter, Contains-from_filter, All-from_contains}
+use Rattle.vt_facts.proofs.MemberLemmas.{Contains-filter, Contains-from_filter, All-from_contains}
 use Rattle.vt_model.proofs.Valid.Sides.{LinkSide}
 use Rattle.vt_model.proofs.Valid.Containment.{IsAtOrIn, IsIn-trans, IsIn-Holds, IsIn-at_or_in, IsIn-of_at_or_in, IsAtOrIn-trans, is_inside-IsAtOrIn}
 use Rattle.vt_model.proofs.Valid.Backs.{IsBack-link_back, FitsReference-link_back}

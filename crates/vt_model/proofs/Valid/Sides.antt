@@ -3,7 +3,7 @@ use Rattle.std.specs.Prelude.{◌≡◌, ◌<◌, ◌≤◌, ◌++◌, map, true
 use Rattle.std.specs.List.Sorted.{IsStrictlySortedBy}
 use Rattle.vt_base.specs.declared.numbers.ObjId.{ObjId}
 use Rattle.vt_model.specs.Metamodel.{Metamodel}
-use Rattle.vt_model.specs.Words.{is_distinct}
+use Rattle.vt_facts.specs.Names.{is_distinct}
 use Rattle.vt_model.specs.Model.{Model}
 use Rattle.vt_model.specs.Creating.{is_reserved}
 use Rattle.vt_model.specs.Assigning.{value_order}

@@ -20,12 +20,13 @@ use Rattle.vt_model.specs.declared.metamodel.AttrInfo.{AttrInfo}
 use Rattle.vt_model.specs.declared.model.Object.{Object}
 use Rattle.vt_model.specs.declared.model.AttributeValue.{AttributeValue}
 use Rattle.vt_model.specs.declared.model.Link.{Link}
-use Rattle.vt_model.proofs.OrderedLemmas.{IsStrictlySortedBy-append}
+use Rattle.vt_facts.proofs.OrderedLemmas.{IsStrictlySortedBy-append}
 use Rattle.vt_model.proofs.Valid.Sides.{ObjectSide}
-use Rattle.vt_model.proofs.Valid.Counts.{count_by-append, count_by-none, count_by-filter, All-filter_passes, Contains-filter}
+use Rattle.vt_facts.proofs.CountLemmas.{count_by-append, count_by-none, count_by-filter, All-filter_passes}
 use Rattle.vt_model.proofs.Valid.Objects.{without}
 use Rattle.vt_model.proofs.Valid.Kinds.{HasKind-default_value, IsStorable-default_value}
 use Rattle.vt_model.proofs.Valid.Defaults.{value_order-object, is_value_of-other_object, All-defaults_from, defaults-object, defaults-rise, count_by-defaults}
+use Rattle.vt_facts.proofs.MemberLemmas.{Contains-filter}
 
 -- ---- live objects
 

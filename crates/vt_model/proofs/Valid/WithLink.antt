@@ -1,29 +1,24 @@
 -- What stands among the links after a new one came with its opposite.
-use Rattle.std.proofs.Common.{◌≡◌, ℕ, List, refl, ap, subst, ◌∙◌, arith, ◌⊎◌, inl, inr, sym}
+use Rattle.std.proofs.Common.{◌≡◌, List, refl, ap, subst, ◌∙◌, ◌⊎◌, inl, inr, sym}
 use Rattle.std.specs.Prelude.{Contains, Option, Some, None}
 use Rattle.std.specs.List.Sorted.{IsStrictlySortedBy}
 use Rattle.std.specs.BTreeSet.{insert_key}
 use Rattle.std.specs.Cmp.{IsTotalOrder}
-use Rattle.std.specs.Ordering.{nat_cmp, ordering_then}
 use Rattle.std.specs.declared.cmp.Ordering.TheVariants.{Equal}
-use Rattle.std.proofs.lemmas.Bool.Decides.{nat_tests}
 use Rattle.std.proofs.lemmas.Cmp.{then_total, on_total, nat_cmp_total}
 use Rattle.vt_model.specs.Metamodel.{Metamodel}
 use Rattle.vt_model.specs.Linking.{link_order, link_back, with_back, with_link}
 use Rattle.vt_model.specs.declared.model.Link.{Link}
-use Rattle.vt_model.proofs.OrderedLemmas.{IsStrictlySortedBy-insert_key}
-use Rattle.vt_model.proofs.MemberLemmas.{Contains-insert_key_cases, Contains-insert_key_old, Contains-insert_key_new}
+use Rattle.vt_facts.proofs.OrderedLemmas.{IsStrictlySortedBy-insert_key}
+use Rattle.vt_facts.proofs.MemberLemmas.{Contains-insert_key_cases, Contains-insert_key_old, Contains-insert_key_new}
 use Rattle.vt_model.proofs.Valid.Dropped.{Comes}
+use Rattle.vt_facts.proofs.NumberLemmas.{threes_Equal}
 
 -- ---- the order of links
 
 -- the order is total
 link_order_total : IsTotalOrder link_order
 link_order_total = then_total (on_total (λ l. l.source.0) nat_cmp_total) (then_total (on_total (λ l. l.reference.0) nat_cmp_total) (on_total (λ l. l.target.0) nat_cmp_total))
-
--- numbers in threes that the order doesn't tell apart are the same
-threes_Equal : (a b c x y z : ℕ) → ordering_then (nat_cmp a x) (ordering_then (nat_cmp b y) (nat_cmp c z)) ≡ Equal → (a ≡ x) × (b ≡ y) × (c ≡ z)
-threes_Equal a b c x y z e = grind (arith, nat_tests)
 
 -- links that the order doesn't tell apart are the same
 link_order-Equal : (a b : Link) → link_order a b ≡ Equal → a ≡ b

@@ -10,7 +10,7 @@ use Rattle.vt_model.specs.Fits.{FitsReference}
 use Rattle.vt_model.specs.Valid.{IsValid}
 use Rattle.vt_model.specs.declared.model.Object.{Object}
 use Rattle.vt_model.specs.declared.model.Link.{Link}
-use Rattle.vt_model.proofs.MemberLemmas.{Contains-head, Contains-behind, find-some}
+use Rattle.vt_facts.proofs.MemberLemmas.{Contains-head, Contains-behind, find-some}
 use Rattle.vt_slots.specs.declared.slot.Side.TheVariants.{Outgoing}
 use Rattle.vt_graph.specs.Asked.{live_at, gone_at, or_gone, is_at, other_of, others_at}
 use Rattle.vt_model_json.specs.Dump.{name_of, links_of, target_names}

@@ -16,13 +16,13 @@ use Rattle.vt_model.specs.Model.{Model}
 use Rattle.vt_model.specs.Assigning.{value_order, is_value_of}
 use Rattle.vt_model.specs.Valid.{IsValid}
 use Rattle.vt_model.specs.declared.model.AttributeValue.{AttributeValue}
-use Rattle.vt_model.proofs.MemberLemmas.{Contains-filter, Contains-from_filter, Contains-find}
+use Rattle.vt_facts.proofs.MemberLemmas.{Contains-filter, Contains-from_filter, Contains-find}
 use Rattle.vt_slots.specs.Values.{AttributesRise, attribute_order, value_in}
 use Rattle.vt_slots.specs.declared.values.Held.{Held}
 use Rattle.vt_graph.specs.Asked.{value_at}
 use Rattle.vt_graph.specs.Inside.Stored.{attribute_value}
-use Rattle.vt_graph.proofs.RisingLemmas.{find_is, same_items}
-use Rattle.vt_graph.proofs.ChosenLemmas.{rises-filter_map}
+use Rattle.vt_facts.proofs.RisingLemmas.{find_is, same_items}
+use Rattle.vt_facts.proofs.ChosenLemmas.{rises-filter_map}
 use Rattle.vt_graph.proofs.SlotLemmas.{same_object, equal_numbers}
 use Rattle.vt_graph.proofs.ValueLemmas.{value_order_total, tied_values, value_of_parts, held_stands, held_stood}
 use Rattle.vt_model_json.specs.Dump.{values_of}

@@ -14,13 +14,13 @@ use Rattle.vt_model.specs.Model.{Model}
 use Rattle.vt_model.specs.Deleting.{with_gone}
 use Rattle.vt_model.specs.Valid.{object_order}
 use Rattle.vt_model.specs.declared.model.Object.{Object}
-use Rattle.vt_model.proofs.MemberLemmas.{Contains-head, Contains-behind, Contains-filter, Contains-from_filter, Contains-find, find-some}
+use Rattle.vt_facts.proofs.MemberLemmas.{Contains-head, Contains-behind, Contains-filter, Contains-from_filter, Contains-find, find-some}
 use Rattle.vt_model.proofs.Valid.Containment.{same_object}
 use Rattle.vt_store.specs.Inside.Levels.{numbers, object_at, without_object, buried}
 use Rattle.vt_store.proofs.Deleting.Taken.{same_test, not_either, list_any-there, list_any-item}
-use Rattle.vt_graph.proofs.RisingLemmas.{tied_is, first_below}
+use Rattle.vt_facts.proofs.RisingLemmas.{tied_is, first_below}
 use Rattle.vt_store.proofs.Linking.Lists.{filter-filter, filter-agree}
-use Rattle.vt_graph.proofs.ChosenLemmas.{filter-all}
+use Rattle.vt_facts.proofs.ChosenLemmas.{filter-all}
 use Rattle.vt_store.proofs.UndoneLemmas.{object_order_total}
 
 -- objects of one number are tied

@@ -10,7 +10,7 @@ use Rattle.vt_model.specs.Metamodel.{Metamodel}
 use Rattle.vt_model.specs.Model.{Model}
 use Rattle.vt_model.specs.Containing.{is_inside}
 use Rattle.vt_model.specs.Valid.{IsValid}
-use Rattle.vt_model.proofs.MemberLemmas.{Contains-head, Contains-behind, Contains-from_filter}
+use Rattle.vt_facts.proofs.MemberLemmas.{Contains-head, Contains-behind, Contains-from_filter, Contains-from_map}
 use Rattle.vt_model.proofs.Valid.Containment.{same_object}
 use Rattle.vt_store.specs.Inside.Levels.{numbers, objects_inside, touches, object_at, without_object, buried, IsBare, CanBury}
 use Rattle.vt_slots.specs.Ends.{number_order}
@@ -19,8 +19,7 @@ use Rattle.vt_graph.proofs.Linked.Ends.{number_order_total}
 use Rattle.vt_store.proofs.Deleting.Found.{is_inside-objects_inside}
 use Rattle.vt_store.proofs.Deleting.Buried.{object_at-live}
 use Rattle.vt_store.proofs.Deleting.Steps.{values_gone, found_rises}
-use Rattle.vt_graph.proofs.RisingLemmas.{first_below, not_below_itself}
-use Rattle.vt_graph.proofs.Linked.Stored.{Contains-from_map}
+use Rattle.vt_facts.proofs.RisingLemmas.{first_below, not_below_itself}
 
 -- ---- one after another
 

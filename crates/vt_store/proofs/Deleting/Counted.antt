@@ -18,15 +18,15 @@ use Rattle.vt_model.specs.Fits.{FitsReference}
 use Rattle.vt_model.specs.Valid.{IsOnlyContainer, object_order, IsValid}
 use Rattle.vt_model.specs.declared.model.Object.{Object}
 use Rattle.vt_model.specs.declared.model.Link.{Link}
-use Rattle.vt_model.proofs.MemberLemmas.{Contains-head, Contains-behind, Contains-nil, Contains-cons_cases, Contains-map, Contains-from_filter, All-from_contains, length-different}
+use Rattle.vt_facts.proofs.MemberLemmas.{Contains-head, Contains-behind, Contains-nil, Contains-cons_cases, Contains-map, Contains-from_filter, All-from_contains, length-different, Contains-from_map}
 use Rattle.vt_model.proofs.Valid.Containment.{same_object, IsAtOrIn, IsIn-Holds, IsIn-of_at_or_in, is_inside-IsAtOrIn}
 use Rattle.vt_model.proofs.Valid.Sides.{LinkSide}
 use Rattle.vt_store.specs.Inside.Levels.{holds_by, children, level_below, levels_from, level_at, numbers}
 use Rattle.vt_store.proofs.Deleting.ListLemmas.{NoRepeats, AreDifferent-NoRepeats, NoRepeats-rising, NoRepeats-filter, NoRepeats-append, NoRepeats-map, NoRepeats-flat_map, apart-append}
 use Rattle.vt_store.proofs.Deleting.Levels.{Holds-children, Holds-level_below, levels_from-none, levels_from-append, IsAtOrIn-levels_from, IsAtOrIn-levels_from_one, Contains-levels_from-more, Contains-levels_from-inside}
-use Rattle.vt_graph.proofs.Linked.Stored.{link_order_total, Contains-from_map}
+use Rattle.vt_graph.proofs.Linked.Stored.{link_order_total}
 use Rattle.vt_store.proofs.UndoneLemmas.{object_order_total}
-use Rattle.vt_graph.proofs.RisingLemmas.{first_below}
+use Rattle.vt_facts.proofs.RisingLemmas.{first_below}
 
 module _ (meta : Metamodel) (g : Model) (side : LinkSide meta g) where
   -- ---- one holder each

@@ -18,14 +18,14 @@ use Rattle.vt_model.specs.Metamodel.{Metamodel}
 use Rattle.vt_model.specs.Model.{Model}
 use Rattle.vt_model.specs.Linking.{link_order, is_containment}
 use Rattle.vt_model.specs.declared.model.Link.{Link}
-use Rattle.vt_model.proofs.MemberLemmas.{Contains-nil, Contains-map, Contains-filter, Contains-from_filter, Contains-find, find-some}
+use Rattle.vt_facts.proofs.MemberLemmas.{Contains-nil, Contains-map, Contains-filter, Contains-from_filter, Contains-find, find-some, Contains-from_map}
 use Rattle.vt_model.proofs.Valid.Containment.{same_object}
 use Rattle.vt_store.specs.Inside.Levels.{children, leaving, coming, AreLinksAt}
 use Rattle.vt_slots.specs.Ends.{number_order}
 use Rattle.vt_store.proofs.Deleting.ListLemmas.{rises-map}
-use Rattle.vt_graph.proofs.RisingLemmas.{tied_is, same_items}
-use Rattle.vt_graph.proofs.Linked.Stored.{Contains-from_map, link_order_total}
-use Rattle.vt_graph.proofs.ChosenLemmas.{Contains-flat_map, Contains-from_flat_map, rises-flat_map}
+use Rattle.vt_facts.proofs.RisingLemmas.{tied_is, same_items}
+use Rattle.vt_graph.proofs.Linked.Stored.{link_order_total}
+use Rattle.vt_facts.proofs.ChosenLemmas.{Contains-flat_map, Contains-from_flat_map, rises-flat_map}
 use Rattle.vt_store.proofs.Linking.Lists.{filter-filter}
 use Rattle.vt_graph.proofs.Linked.Ends.{same_reference}
 

@@ -7,7 +7,7 @@ use Rattle.vt_model.specs.Metamodel.{Metamodel}
 use Rattle.vt_model.specs.Model.{Model}
 use Rattle.vt_model.specs.Linking.{is_containment}
 use Rattle.vt_model.specs.Containing.{Holds, holder}
-use Rattle.vt_model.proofs.MemberLemmas.{Contains-nil, Contains-head, Contains-cons_cases, find-some}
+use Rattle.vt_facts.proofs.MemberLemmas.{Contains-nil, Contains-head, Contains-cons_cases, find-some}
 use Rattle.vt_model.proofs.Valid.Sides.{LinkSide}
 use Rattle.vt_store.specs.Inside.Levels.{level_below, level_at, holder_after}
 use Rattle.vt_store.proofs.Deleting.Levels.{Holds-holder, is_holding, Contains-level_below, Holds-level_below}

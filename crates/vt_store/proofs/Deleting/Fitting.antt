@@ -3,14 +3,14 @@ use Rattle.std.proofs.Common.{◌≡◌, ℕ, List, ◌++◌, refl, sym, ap, sub
 use Rattle.std.specs.Prelude.{◌==◌, Contains, filter, fold, map, IsSome, is_some}
 use Rattle.std.proofs.lemmas.List.Kept.{IsStrictlySortedBy-filter}
 use Rattle.vt_base.specs.declared.numbers.ObjId.{ObjId}
-use Rattle.vt_model.specs.Words.{is_name}
+use Rattle.vt_facts.specs.Names.{is_name}
 use Rattle.vt_model.specs.Metamodel.{Metamodel}
 use Rattle.vt_model.specs.Model.{Model}
 use Rattle.vt_model.specs.Containing.{is_inside}
 use Rattle.vt_model.specs.Deleting.{with_gone, deleted}
 use Rattle.vt_model.specs.Valid.{object_order, IsValid}
 use Rattle.vt_model.specs.declared.model.Object.{Object}
-use Rattle.vt_model.proofs.MemberLemmas.{Contains-map, Contains-from_filter, Contains-find, find-some}
+use Rattle.vt_facts.proofs.MemberLemmas.{Contains-map, Contains-from_filter, Contains-find, find-some}
 use Rattle.vt_graph.specs.Held.{Held}
 use Rattle.vt_graph.specs.Asked.{live_at, gone_at}
 use Rattle.vt_graph.specs.Room.{KeepsRoom, HasRoom}

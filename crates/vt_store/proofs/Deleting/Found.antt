@@ -10,7 +10,7 @@ use Rattle.vt_model.specs.Model.{Model}
 use Rattle.vt_model.specs.Containing.{is_inside}
 use Rattle.vt_model.specs.Valid.{object_order, IsValid}
 use Rattle.vt_model.specs.declared.model.Object.{Object}
-use Rattle.vt_model.proofs.MemberLemmas.{Contains-map, Contains-filter, Contains-from_filter, Contains-find}
+use Rattle.vt_facts.proofs.MemberLemmas.{Contains-map, Contains-filter, Contains-from_filter, Contains-find, Contains-from_map}
 use Rattle.vt_model.proofs.Valid.Containment.{same_object}
 use Rattle.vt_model.proofs.Valid.Sides.{LinkSide, LinkSide-valid}
 use Rattle.vt_graph.specs.Asked.{live_at}
@@ -19,8 +19,7 @@ use Rattle.vt_slots.specs.Ends.{number_order}
 use Rattle.vt_graph.proofs.Linked.Ends.{number_order_total}
 use Rattle.vt_store.proofs.Deleting.ListLemmas.{rises-map}
 use Rattle.vt_store.proofs.Deleting.Counted.{Contains-numbers-levels_from, Contains-levels_from-enough, is_inside-levels_from}
-use Rattle.vt_graph.proofs.RisingLemmas.{same_items}
-use Rattle.vt_graph.proofs.Linked.Stored.{Contains-from_map}
+use Rattle.vt_facts.proofs.RisingLemmas.{same_items}
 
 -- ---- the objects found
 

@@ -11,11 +11,10 @@ use Rattle.vt_model.specs.Model.{Model}
 use Rattle.vt_model.specs.Linking.{is_containment}
 use Rattle.vt_model.specs.Containing.{Holds, holder, is_within, is_inside}
 use Rattle.vt_model.specs.declared.model.Link.{Link}
-use Rattle.vt_model.proofs.MemberLemmas.{Contains-nil, Contains-head, Contains-cons_cases, Contains-map, Contains-filter, Contains-from_filter, Contains-find}
+use Rattle.vt_facts.proofs.MemberLemmas.{Contains-nil, Contains-head, Contains-cons_cases, Contains-map, Contains-filter, Contains-from_filter, Contains-find, Contains-from_map}
 use Rattle.vt_model.proofs.Valid.Containment.{same_object, IsAtOrIn, IsIn-Holds, IsIn-of_at_or_in}
 use Rattle.vt_store.specs.Inside.Levels.{holds_by, children, level_below, levels_from, level_at}
-use Rattle.vt_graph.proofs.Linked.Stored.{Contains-from_map}
-use Rattle.vt_graph.proofs.ChosenLemmas.{Contains-flat_map, Contains-from_flat_map}
+use Rattle.vt_facts.proofs.ChosenLemmas.{Contains-flat_map, Contains-from_flat_map}
 
 module _ (meta : Metamodel) (g : Model) where
   -- ---- what an object contains directly

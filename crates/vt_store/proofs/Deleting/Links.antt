@@ -14,11 +14,11 @@ use Rattle.vt_model.specs.Containing.{is_inside}
 use Rattle.vt_model.specs.Fits.{FitsReference}
 use Rattle.vt_model.specs.Valid.{IsValid}
 use Rattle.vt_model.specs.declared.model.Link.{Link}
-use Rattle.vt_model.proofs.MemberLemmas.{Contains-nil, Contains-map, Contains-filter, Contains-from_filter}
+use Rattle.vt_facts.proofs.MemberLemmas.{Contains-nil, Contains-map, Contains-filter, Contains-from_filter}
 use Rattle.vt_store.specs.Inside.Levels.{numbers, objects_inside, touches, AreLinksAt, AddsLinksAt, CollectsLinks, IsArranged}
 use Rattle.vt_store.proofs.Deleting.Found.{Contains-objects_inside, is_inside-objects_inside}
-use Rattle.vt_graph.proofs.RisingLemmas.{same_items}
-use Rattle.vt_graph.proofs.ChosenLemmas.{Contains-flat_map, Contains-from_flat_map}
+use Rattle.vt_facts.proofs.RisingLemmas.{same_items}
+use Rattle.vt_facts.proofs.ChosenLemmas.{Contains-flat_map, Contains-from_flat_map}
 use Rattle.vt_graph.proofs.Linked.Stored.{link_order_total}
 
 module _ (g : Model) where

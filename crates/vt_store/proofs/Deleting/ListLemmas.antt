@@ -9,12 +9,11 @@ use Rattle.std.specs.Cmp.{IsTotalOrder}
 use Rattle.std.specs.declared.cmp.Ordering.{Ordering}
 use Rattle.std.specs.declared.cmp.Ordering.TheVariants.{Less}
 use Rattle.std.proofs.lemmas.List.Elements.{Contains-append_left, Contains-append_right, Contains-append_cases, All-contains, All-from_recursion, recursion_from_All}
-use Rattle.vt_model.proofs.OrderedLemmas.{IsStrictlySortedBy-append}
+use Rattle.vt_facts.proofs.OrderedLemmas.{IsStrictlySortedBy-append}
 use Rattle.std.proofs.lemmas.Map.Keys.{sorted_tail}
-use Rattle.vt_model.proofs.MemberLemmas.{Contains-nil, Contains-head, Contains-behind, Contains-cons_cases, Contains-from_filter, All-from_contains, AreDifferent}
-use Rattle.vt_graph.proofs.RisingLemmas.{first_below, not_below_itself}
-use Rattle.vt_graph.proofs.ChosenLemmas.{Contains-from_flat_map}
-use Rattle.vt_graph.proofs.Linked.Stored.{Contains-from_map}
+use Rattle.vt_facts.proofs.MemberLemmas.{Contains-nil, Contains-head, Contains-behind, Contains-cons_cases, Contains-from_filter, All-from_contains, AreDifferent, Contains-from_map}
+use Rattle.vt_facts.proofs.RisingLemmas.{first_below, not_below_itself}
+use Rattle.vt_facts.proofs.ChosenLemmas.{Contains-from_flat_map}
 
 -- ---- lists without repeats
 

@@ -7,7 +7,7 @@ use Rattle.std.proofs.lemmas.Bool.{and_parts, and_from, eqb-true, eq-eqb}
 use Rattle.vt_base.specs.Order.{value_cmp}
 use Rattle.vt_base.specs.Inside.OrderLaws.{IsTotalOrder-value_cmp}
 use Rattle.vt_base.proofs.OrderLemmas.{exact-value_cmp, eq_by_cmp-Decides}
-use Rattle.vt_model.specs.Words.{is_name}
+use Rattle.vt_facts.specs.Names.{is_name}
 use Rattle.vt_store.specs.Edits.{same_object, same_gone, same_value, same_link}
 use Rattle.vt_graph.proofs.Linked.Changed.{is_link-same, is_link-itself}
 

@@ -12,13 +12,12 @@ use Rattle.vt_model.specs.Metamodel.{Metamodel}
 use Rattle.vt_model.specs.Model.{Model}
 use Rattle.vt_model.specs.Linking.{link_order}
 use Rattle.vt_model.specs.declared.model.Link.{Link}
-use Rattle.vt_model.proofs.MemberLemmas.{Contains-map, Contains-filter, Contains-from_filter, All-from_contains}
+use Rattle.vt_facts.proofs.MemberLemmas.{Contains-map, Contains-filter, Contains-from_filter, All-from_contains, Contains-from_map}
 use Rattle.vt_model.proofs.Valid.Containment.{same_object}
 use Rattle.vt_store.specs.Inside.Levels.{children, leaving, coming, targets_of, sources_of, AreLinksAt}
 use Rattle.vt_slots.specs.Ends.{number_order}
 use Rattle.vt_store.proofs.Deleting.ListLemmas.{rises-map_there}
 use Rattle.vt_store.proofs.Deleting.Ends.{nat_cmp-same, ends_order, objects_in, objects_in-own, AreEnds, links_by, contained, AreLinksAt-ends, children_ends}
-use Rattle.vt_graph.proofs.Linked.Stored.{Contains-from_map}
 use Rattle.vt_graph.proofs.Linked.Ends.{same_reference}
 
 module _ (g : Model) (x : ObjId) where

@@ -19,14 +19,13 @@ use Rattle.vt_model.specs.Sound.{IsSound}
 use Rattle.vt_model.proofs.Valid.Sides.{IsValid-sides, ObjectSide-valid, LinkSide-valid}
 use Rattle.vt_model.proofs.Valid.ObjectSide.{ObjectSide-deleted}
 use Rattle.vt_model.proofs.Valid.DeletedLinks.{LinkSide-deleted}
-use Rattle.vt_model.proofs.MemberLemmas.{Contains-from_filter, Contains-map}
+use Rattle.vt_facts.proofs.MemberLemmas.{Contains-from_filter, Contains-map, Contains-from_map}
 use Rattle.vt_store.specs.Inside.Levels.{numbers, all_values_out, object_at, objects_inside, touches, without_link, values_taken, buried}
 use Rattle.vt_slots.specs.Ends.{number_order}
 use Rattle.vt_store.proofs.Deleting.Found.{numbers-rise, Contains-objects_inside, is_inside-objects_inside}
 use Rattle.vt_store.proofs.Deleting.Taken.{dropped_is, taken_is}
 use Rattle.vt_store.proofs.Deleting.Buried.{buried_is, objects_at-live}
 use Rattle.vt_store.proofs.Deleting.ValuesOut.{AttributesRise, values_out-are}
-use Rattle.vt_graph.proofs.Linked.Stored.{Contains-from_map}
 
 module _ (meta : Metamodel) (g : Model) (o : ObjId) where
   -- ---- the model on the way

@@ -17,11 +17,11 @@ use Rattle.vt_model.specs.declared.metamodel.AttrInfo.{AttrInfo}
 use Rattle.vt_model.specs.declared.model.AttributeValue.{AttributeValue}
 use Rattle.vt_model.specs.declared.model.Object.{Object}
 use Rattle.vt_model.specs.declared.model.Link.{Link}
-use Rattle.vt_model.proofs.MemberLemmas.{Contains-nil, Contains-head, Contains-behind, Contains-cons_cases, Contains-filter, Contains-from_filter}
+use Rattle.vt_facts.proofs.MemberLemmas.{Contains-nil, Contains-head, Contains-behind, Contains-cons_cases, Contains-filter, Contains-from_filter}
 use Rattle.vt_model.proofs.Valid.Containment.{same_object}
 use Rattle.vt_store.specs.Inside.Levels.{without_link, value_taken, values_taken}
 use Rattle.vt_store.proofs.Linking.Lists.{filter-filter, filter-agree}
-use Rattle.vt_graph.proofs.ChosenLemmas.{filter-all}
+use Rattle.vt_facts.proofs.ChosenLemmas.{filter-all}
 use Rattle.vt_graph.proofs.Linked.Changed.{is_link-same, is_link-itself}
 
 -- ---- tests

@@ -17,20 +17,20 @@ use Rattle.vt_model.specs.Assigning.{value_order, is_value_of, with_default_valu
 use Rattle.vt_model.specs.Containing.{is_inside}
 use Rattle.vt_model.specs.Valid.{IsValid}
 use Rattle.vt_model.specs.declared.model.AttributeValue.{AttributeValue}
-use Rattle.vt_model.proofs.MemberLemmas.{Contains-filter, Contains-from_filter, Contains-find}
+use Rattle.vt_facts.proofs.MemberLemmas.{Contains-filter, Contains-from_filter, Contains-find}
 use Rattle.vt_model.proofs.Valid.Containment.{same_object}
 use Rattle.vt_slots.specs.Values.{AttributesRise, attribute_order, value_in}
 use Rattle.vt_slots.specs.declared.values.Held.{Held}
 use Rattle.vt_graph.specs.Held.{Held as Graph}
 use Rattle.vt_graph.specs.Asked.{value_at}
 use Rattle.vt_graph.specs.Having.{HasAttribute}
-use Rattle.vt_graph.proofs.ChosenLemmas.{rises-filter_map, Contains-flat_map, Contains-from_flat_map, rises-flat_map}
+use Rattle.vt_facts.proofs.ChosenLemmas.{rises-filter_map, Contains-flat_map, Contains-from_flat_map, rises-flat_map}
 use Rattle.vt_graph.proofs.ValueLemmas.{held_stands, held_stood, value_order_total}
 use Rattle.vt_store.specs.Inside.Levels.{numbers, objects_inside, value_of, values_of}
 use Rattle.vt_slots.specs.Ends.{number_order}
 use Rattle.vt_store.proofs.Deleting.Steps.{found_of_value, inside_found, found_rises}
 use Rattle.vt_store.proofs.Deleting.ValuesOut.{value_of_parts, find-value_of}
-use Rattle.vt_graph.proofs.RisingLemmas.{same_items}
+use Rattle.vt_facts.proofs.RisingLemmas.{same_items}
 
 -- ---- one object
 

@@ -16,14 +16,14 @@ use Rattle.vt_base.specs.declared.numbers.AttrId.{AttrId}
 use Rattle.vt_model.specs.Model.{Model}
 use Rattle.vt_model.specs.Assigning.{value_order, is_value_of}
 use Rattle.vt_model.specs.declared.model.AttributeValue.{AttributeValue}
-use Rattle.vt_model.proofs.MemberLemmas.{Contains-nil, Contains-head, Contains-behind, Contains-cons_cases, Contains-filter, Contains-from_filter, Contains-find, find-some}
+use Rattle.vt_facts.proofs.MemberLemmas.{Contains-nil, Contains-head, Contains-behind, Contains-cons_cases, Contains-filter, Contains-from_filter, Contains-find, find-some}
 use Rattle.vt_model.proofs.Valid.Containment.{same_object}
 use Rattle.vt_store.specs.Inside.Levels.{value_taken, values_taken, values_out, all_values_out}
 use Rattle.vt_slots.specs.Ends.{number_order}
 use Rattle.vt_store.proofs.Deleting.ListLemmas.{NoRepeats, NoRepeats-rising, rises-option, find-filter}
 use Rattle.vt_graph.proofs.Linked.Ends.{number_order_total}
-use Rattle.vt_graph.proofs.RisingLemmas.{tied_is, same_items}
-use Rattle.vt_graph.proofs.ChosenLemmas.{Contains-flat_map, Contains-from_flat_map, rises-flat_map, flat_map-agree}
+use Rattle.vt_facts.proofs.RisingLemmas.{tied_is, same_items}
+use Rattle.vt_facts.proofs.ChosenLemmas.{Contains-flat_map, Contains-from_flat_map, rises-flat_map, flat_map-agree}
 use Rattle.vt_graph.proofs.ValueLemmas.{value_order_total}
 
 -- numbers of attributes in their order

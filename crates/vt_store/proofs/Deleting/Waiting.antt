@@ -13,7 +13,7 @@ use Rattle.vt_model.specs.Model.{Model}
 use Rattle.vt_model.specs.Deleting.{with_gone}
 use Rattle.vt_model.specs.Valid.{object_order}
 use Rattle.vt_model.specs.declared.model.Object.{Object}
-use Rattle.vt_model.proofs.MemberLemmas.{All-from_contains, Contains-nil, Contains-head, Contains-behind, Contains-cons_cases, Contains-filter, Contains-find}
+use Rattle.vt_facts.proofs.MemberLemmas.{All-from_contains, Contains-nil, Contains-head, Contains-behind, Contains-cons_cases, Contains-filter, Contains-find}
 use Rattle.vt_model.proofs.Valid.Containment.{same_object}
 use Rattle.vt_slots.specs.Ends.{capacity_of}
 use Rattle.vt_slots.specs.declared.slot.Side.{Side}

@@ -14,7 +14,7 @@ use Rattle.vt_model.specs.Valid.{object_order, IsValid}
 use Rattle.vt_model.specs.declared.model.Object.{Object}
 use Rattle.vt_model.specs.declared.model.AttributeValue.{AttributeValue}
 use Rattle.vt_model.specs.declared.model.Link.{Link}
-use Rattle.vt_model.proofs.MemberLemmas.{All-from_contains, Contains-from_filter}
+use Rattle.vt_facts.proofs.MemberLemmas.{All-from_contains, Contains-from_filter}
 use Rattle.vt_graph.specs.Held.{Held, Buried}
 use Rattle.vt_graph.specs.Having.{HasAttribute}
 use Rattle.vt_graph.specs.Room.{KeepsRoom}

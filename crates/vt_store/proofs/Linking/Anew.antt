@@ -12,7 +12,7 @@ use Rattle.vt_model.specs.Metamodel.{Metamodel}
 use Rattle.vt_model.specs.Model.{Model}
 use Rattle.vt_model.specs.Linking.{is_dropped, is_link, link_back, link_order, relinked, with_link}
 use Rattle.vt_model.specs.declared.model.Link.{Link}
-use Rattle.vt_model.proofs.MemberLemmas.{Contains-filter, Contains-from_filter}
+use Rattle.vt_facts.proofs.MemberLemmas.{Contains-filter, Contains-from_filter}
 use Rattle.vt_model.proofs.Valid.Dropped.{Comes}
 use Rattle.vt_model.proofs.Valid.WithLink.{Contains-with_link_cases, Contains-with_link_old, Contains-with_link_new, IsStrictlySortedBy-with_link}
 use Rattle.vt_store.specs.Edits.{same_link, without}
@@ -22,7 +22,7 @@ use Rattle.vt_store.specs.Inside.Displaced.{NoneStands, without_back, without_li
 use Rattle.vt_store.proofs.Linking.Links.{listed-Contains, Contains-listed, not_there}
 use Rattle.vt_store.proofs.Linking.Steps.{without_back_is, but_for-insert_key}
 use Rattle.vt_store.proofs.Linking.Coming.{comes_anew}
-use Rattle.vt_graph.proofs.RisingLemmas.{same_items}
+use Rattle.vt_facts.proofs.RisingLemmas.{same_items}
 use Rattle.vt_graph.proofs.Linked.Stored.{link_order_total}
 
 -- a link that came and went again leaves the model

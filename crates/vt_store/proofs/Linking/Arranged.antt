@@ -14,7 +14,7 @@ use Rattle.vt_model.specs.Linking.{link_order, is_link}
 use Rattle.vt_model.specs.declared.model.Link.{Link}
 use Rattle.vt_model.specs.contracts.model.LinkPartialEq.TheImpl.{eq-value}
 use Rattle.vt_store.specs.Inside.Displaced.{IsArranged}
-use Rattle.vt_graph.proofs.RisingLemmas.{same_items}
+use Rattle.vt_facts.proofs.RisingLemmas.{same_items}
 use Rattle.vt_graph.proofs.Linked.Changed.{is_link-same}
 use Rattle.vt_graph.proofs.Linked.Stored.{link_order_total}
 

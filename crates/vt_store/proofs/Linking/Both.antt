@@ -14,7 +14,7 @@ use Rattle.vt_model.specs.Linking.{link_order, link_back, is_dropped, with_back,
 use Rattle.vt_model.specs.Sound.{IsSound}
 use Rattle.vt_model.specs.Valid.{IsValid}
 use Rattle.vt_model.specs.declared.model.Link.{Link}
-use Rattle.vt_model.proofs.MemberLemmas.{Contains-nil, Contains-filter, Contains-from_filter}
+use Rattle.vt_facts.proofs.MemberLemmas.{Contains-nil, Contains-filter, Contains-from_filter}
 use Rattle.vt_model.proofs.Valid.WithLink.{Contains-with_link_cases, Contains-with_link_new, IsStrictlySortedBy-with_link}
 use Rattle.vt_store.specs.Inside.Displaced.{targets_of, sources_of, with_opposite, candidates, IsArranged, NoneStands, without_link, without_each, without_back, with_one, with_each}
 use Rattle.vt_store.proofs.Linking.Coming.{link_back_differs}
@@ -22,7 +22,7 @@ use Rattle.vt_store.proofs.Linking.Ends.{AreSources, Contains-with_opposite, Con
 use Rattle.vt_store.proofs.Linking.Candidates.{dropped-found, found-dropped}
 use Rattle.vt_store.proofs.Linking.Arranged.{arranged_is}
 use Rattle.vt_store.proofs.Linking.Steps.{left_each, left_back, come_back_to, come_back_from}
-use Rattle.vt_graph.proofs.RisingLemmas.{rises-none}
+use Rattle.vt_facts.proofs.RisingLemmas.{rises-none}
 use Rattle.vt_graph.proofs.Linked.Stored.{link_order-Equal}
 
 -- ---- a link and its opposite

@@ -13,13 +13,13 @@ use Rattle.vt_model.specs.Linking.{is_many, is_containment, has_single_opposite,
 use Rattle.vt_model.specs.Sound.{IsSound}
 use Rattle.vt_model.specs.Valid.{IsValid, HasItsOpposite}
 use Rattle.vt_model.specs.declared.model.Link.{Link}
-use Rattle.vt_model.proofs.MemberLemmas.{Contains-nil}
+use Rattle.vt_facts.proofs.MemberLemmas.{Contains-nil}
 use Rattle.vt_model.proofs.Valid.Backs.{IsBack-link_back}
 use Rattle.vt_model.proofs.Valid.Dropped.{Comes, is_dropped-displaces, is_dropped-link_back}
 use Rattle.vt_store.specs.Inside.Displaced.{targets_of, sources_of, with_opposite, to_targets, from_sources, old_targets, old_sources, held_from, old_containers, candidates}
 use Rattle.vt_store.proofs.Linking.Ends.{from_to, Contains-with_opposite, Contains-from_with_opposite, target_stands, target_listed, source_stands, source_listed, AreSources, listed_stands, stands_listed}
 use Rattle.vt_store.proofs.Linking.Displaces.{IsOldTarget, IsOldSource, IsOldContainer, displaces-cases, displaces-old_target, displaces-old_source, displaces-old_container}
-use Rattle.vt_graph.proofs.ChosenLemmas.{Contains-flat_map, Contains-from_flat_map}
+use Rattle.vt_facts.proofs.ChosenLemmas.{Contains-flat_map, Contains-from_flat_map}
 use Rattle.vt_graph.proofs.Linked.Stored.{same_ends}
 
 -- ---- links with their opposites

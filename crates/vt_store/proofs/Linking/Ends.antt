@@ -16,11 +16,11 @@ use Rattle.vt_model.specs.Metamodel.{Metamodel}
 use Rattle.vt_model.specs.Model.{Model}
 use Rattle.vt_model.specs.Linking.{link_back, is_link, stands}
 use Rattle.vt_model.specs.declared.model.Link.{Link}
-use Rattle.vt_model.proofs.MemberLemmas.{Contains-head, Contains-behind, Contains-nil, Contains-cons_cases, Contains-filter, Contains-from_filter, Contains-map, Contains-find, find-some}
+use Rattle.vt_facts.proofs.MemberLemmas.{Contains-head, Contains-behind, Contains-nil, Contains-cons_cases, Contains-filter, Contains-from_filter, Contains-map, Contains-find, find-some, Contains-from_map}
 use Rattle.vt_model.proofs.Valid.Dropped.{Comes}
 use Rattle.vt_store.specs.Inside.Displaced.{targets_of, sources_of, beside, with_opposite}
-use Rattle.vt_graph.proofs.RisingLemmas.{tied_is}
-use Rattle.vt_graph.proofs.Linked.Stored.{Contains-from_map, same_ends}
+use Rattle.vt_facts.proofs.RisingLemmas.{tied_is}
+use Rattle.vt_graph.proofs.Linked.Stored.{same_ends}
 use Rattle.vt_graph.proofs.SlotLemmas.{same_object}
 use Rattle.vt_graph.proofs.Linked.Ends.{same_reference}
 

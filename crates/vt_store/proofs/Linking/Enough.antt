@@ -15,7 +15,7 @@ use Rattle.vt_model.specs.Linking.{is_containment}
 use Rattle.vt_model.specs.Containing.{Holds, holder, is_within, is_inside}
 use Rattle.vt_model.specs.Valid.{IsValid}
 use Rattle.vt_model.specs.declared.model.Link.{Link}
-use Rattle.vt_model.proofs.MemberLemmas.{Contains-find}
+use Rattle.vt_facts.proofs.MemberLemmas.{Contains-find}
 use Rattle.vt_model.proofs.Valid.Sides.{LinkSide-valid}
 use Rattle.vt_model.proofs.Valid.Containment.{same_object, IsAtOrIn, IsIn-Holds, IsIn-at_or_in, is_inside-iff}
 

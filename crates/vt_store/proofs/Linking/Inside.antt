@@ -13,7 +13,7 @@ use Rattle.vt_model.specs.Linking.{is_containment}
 use Rattle.vt_model.specs.Containing.{holder, is_within}
 use Rattle.vt_model.specs.Valid.{IsValid, IsOnlyContainer}
 use Rattle.vt_model.specs.declared.model.Link.{Link}
-use Rattle.vt_model.proofs.MemberLemmas.{Contains-nil, Contains-head, Contains-behind, Contains-cons_cases, Contains-find, find-some}
+use Rattle.vt_facts.proofs.MemberLemmas.{Contains-nil, Contains-head, Contains-behind, Contains-cons_cases, Contains-find, find-some}
 use Rattle.vt_store.specs.Inside.Displaced.{sources_of, first_or, holder_in}
 use Rattle.vt_store.proofs.Linking.Ends.{from_to, AreSources, listed_stands, stands_listed}
 use Rattle.vt_graph.proofs.SlotLemmas.{same_object}

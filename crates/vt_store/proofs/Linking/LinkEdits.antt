@@ -10,7 +10,7 @@ use Rattle.std.proofs.lemmas.Cmp.{tied_itself}
 use Rattle.std.proofs.lemmas.List.Kept.{IsStrictlySortedBy-filter}
 use Rattle.vt_base.specs.Inside.OrderLaws.{IsTotalOrder-value_cmp}
 use Rattle.vt_model.specs.Metamodel.{Metamodel}
-use Rattle.vt_model.specs.Words.{is_name}
+use Rattle.vt_facts.specs.Names.{is_name}
 use Rattle.vt_model.specs.Model.{Model}
 use Rattle.vt_model.specs.Linking.{link_order, is_link, stands, oriented, is_dropped, with_link, relinked, linked}
 use Rattle.vt_model.specs.Sound.{IsSound}
@@ -19,7 +19,7 @@ use Rattle.vt_model.specs.declared.model.Object.{Object}
 use Rattle.vt_model.specs.declared.model.GoneObject.{GoneObject}
 use Rattle.vt_model.specs.declared.model.AttributeValue.{AttributeValue}
 use Rattle.vt_model.specs.declared.model.Link.{Link}
-use Rattle.vt_model.proofs.MemberLemmas.{Contains-nil, Contains-filter, Contains-from_filter}
+use Rattle.vt_facts.proofs.MemberLemmas.{Contains-nil, Contains-filter, Contains-from_filter}
 use Rattle.vt_model.proofs.Valid.Dropped.{Comes}
 use Rattle.vt_model.proofs.Valid.WithLink.{Contains-with_link_cases, Contains-with_link_old, Contains-with_link_new, IsStrictlySortedBy-with_link}
 use Rattle.vt_store.specs.Edits.{same_object, same_gone, same_value, same_link, without, net, edit_of}
@@ -28,7 +28,7 @@ use Rattle.vt_store.proofs.Linking.Lists.{filter-agree, filter-none, without-its
 use Rattle.vt_store.proofs.Linking.Links.{listed-Contains, not_listed, not_there}
 use Rattle.vt_store.proofs.Linking.Steps.{gone_filter}
 use Rattle.vt_store.proofs.Linking.Coming.{comes_anew, none_stands_oriented, linked_stands, linked_new}
-use Rattle.vt_graph.proofs.RisingLemmas.{same_items, rises-none}
+use Rattle.vt_facts.proofs.RisingLemmas.{same_items, rises-none}
 use Rattle.vt_graph.proofs.Linked.Changed.{is_link-itself}
 use Rattle.vt_graph.proofs.Linked.Stored.{link_order_total}
 

@@ -13,7 +13,7 @@ use Rattle.vt_base.specs.declared.numbers.ObjId.{ObjId}
 use Rattle.vt_base.specs.declared.numbers.RefId.{RefId}
 use Rattle.vt_model.specs.Linking.{link_order, is_link}
 use Rattle.vt_model.specs.declared.model.Link.{Link}
-use Rattle.vt_model.proofs.MemberLemmas.{Contains-nil, Contains-cons_cases}
+use Rattle.vt_facts.proofs.MemberLemmas.{Contains-nil, Contains-cons_cases}
 use Rattle.vt_graph.proofs.Linked.Changed.{is_link-same, is_link-itself}
 
 -- ---- the same link

@@ -5,9 +5,9 @@ use Rattle.std.specs.List.{list_any, flat_map}
 use Rattle.std.specs.List.Sorted.{IsStrictlySortedBy}
 use Rattle.std.specs.declared.cmp.Ordering.{Ordering}
 use Rattle.std.proofs.lemmas.List.Elements.{Contains-append_left, Contains-append_right, Contains-append_cases}
-use Rattle.vt_model.proofs.MemberLemmas.{Contains-nil, Contains-head, Contains-behind, Contains-cons_cases}
+use Rattle.vt_facts.proofs.MemberLemmas.{Contains-nil, Contains-head, Contains-behind, Contains-cons_cases}
 use Rattle.vt_store.specs.Edits.{without}
-use Rattle.vt_graph.proofs.ChosenLemmas.{filter-all}
+use Rattle.vt_facts.proofs.ChosenLemmas.{filter-all}
 
 -- ---- filters
 

@@ -17,7 +17,7 @@ use Rattle.vt_model.specs.Sound.{IsSound}
 use Rattle.vt_model.specs.Valid.{IsValid, object_order}
 use Rattle.vt_model.specs.declared.model.Object.{Object}
 use Rattle.vt_model.specs.declared.model.Link.{Link}
-use Rattle.vt_model.proofs.MemberLemmas.{Contains-nil, Contains-find, find-some, All-from_contains}
+use Rattle.vt_facts.proofs.MemberLemmas.{Contains-nil, Contains-find, find-some, All-from_contains}
 use Rattle.vt_model.proofs.Valid.Backs.{IsByOpposite-link_back}
 use Rattle.vt_model.proofs.Valid.Dropped.{Comes}
 use Rattle.vt_model.proofs.Valid.LinkAsked.{FitsReference-asked}
@@ -25,7 +25,7 @@ use Rattle.vt_model.proofs.Valid.WithLink.{Contains-with_link_cases}
 use Rattle.vt_store.specs.Inside.Displaced.{live_at, EndsLive, without_link, without_each, without_back, with_one, with_each}
 use Rattle.vt_store.proofs.Linking.Ends.{from_to}
 use Rattle.vt_store.proofs.Linking.Coming.{fits_comes, fits_oriented}
-use Rattle.vt_graph.proofs.RisingLemmas.{tied_is}
+use Rattle.vt_facts.proofs.RisingLemmas.{tied_is}
 
 -- ---- while links go and come
 

@@ -9,16 +9,16 @@ use Rattle.std.proofs.lemmas.List.Kept.{IsStrictlySortedBy-filter}
 use Rattle.vt_model.specs.Model.{Model}
 use Rattle.vt_model.specs.Linking.{link_order, is_link}
 use Rattle.vt_model.specs.declared.model.Link.{Link}
-use Rattle.vt_model.proofs.MemberLemmas.{Contains-filter, Contains-from_filter, Contains-insert_key_cases, Contains-insert_key_old}
-use Rattle.vt_model.proofs.OrderedLemmas.{IsStrictlySortedBy-insert_key}
+use Rattle.vt_facts.proofs.MemberLemmas.{Contains-filter, Contains-from_filter, Contains-insert_key_cases, Contains-insert_key_old}
+use Rattle.vt_facts.proofs.OrderedLemmas.{IsStrictlySortedBy-insert_key}
 use Rattle.vt_store.specs.Edits.{same_link, without}
 use Rattle.vt_store.specs.Inside.Displaced.{without_link, without_each, without_back, with_one, with_each}
 use Rattle.vt_store.proofs.RisingLemmas.{inserted_is}
 use Rattle.vt_store.proofs.Linking.Lists.{filter-agree, without-none, without-cons, without-push, without-then}
 use Rattle.vt_store.proofs.Linking.Links.{is_link-differs, listed-Contains, not_there}
 use Rattle.vt_store.proofs.Linking.Arranged.{is_link_equiv}
-use Rattle.vt_graph.proofs.RisingLemmas.{same_items}
-use Rattle.vt_graph.proofs.ChosenLemmas.{filter-all}
+use Rattle.vt_facts.proofs.RisingLemmas.{same_items}
+use Rattle.vt_facts.proofs.ChosenLemmas.{filter-all}
 use Rattle.vt_graph.proofs.Linked.Changed.{is_link-itself}
 use Rattle.vt_graph.proofs.Linked.Stored.{link_order_total}
 

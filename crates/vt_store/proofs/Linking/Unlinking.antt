@@ -11,7 +11,7 @@ use Rattle.vt_model.specs.Linking.{link_order, is_link, stands, link_back, with_
 use Rattle.vt_model.specs.Sound.{IsSound}
 use Rattle.vt_model.specs.Valid.{IsValid}
 use Rattle.vt_model.specs.declared.model.Link.{Link}
-use Rattle.vt_model.proofs.MemberLemmas.{Contains-nil, Contains-filter, Contains-from_filter}
+use Rattle.vt_facts.proofs.MemberLemmas.{Contains-nil, Contains-filter, Contains-from_filter}
 use Rattle.vt_model.proofs.Valid.Backs.{IsBack-link_back}
 use Rattle.vt_model.proofs.Valid.Dropped.{Comes}
 use Rattle.vt_model.proofs.Valid.WithLink.{Contains-with_link_cases, Contains-with_link_new, IsStrictlySortedBy-with_link}
@@ -22,8 +22,8 @@ use Rattle.vt_store.proofs.Linking.Links.{Contains-listed, not_listed}
 use Rattle.vt_store.proofs.Linking.Steps.{but_for, left_each, left_back}
 use Rattle.vt_store.proofs.Linking.LinkEdits.{edit_of_fewer}
 use Rattle.vt_store.proofs.Linking.Coming.{Comes-stands, Comes-stood}
-use Rattle.vt_graph.proofs.RisingLemmas.{same_items, rises-none}
-use Rattle.vt_graph.proofs.ChosenLemmas.{filter-all}
+use Rattle.vt_facts.proofs.RisingLemmas.{same_items, rises-none}
+use Rattle.vt_facts.proofs.ChosenLemmas.{filter-all}
 use Rattle.vt_graph.proofs.Linked.Changed.{is_link-same, is_link-itself}
 use Rattle.vt_graph.proofs.Linked.Stored.{link_order_total}
 

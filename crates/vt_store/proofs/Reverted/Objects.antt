@@ -18,7 +18,7 @@ use Rattle.vt_model.specs.Deleting.{gone_order}
 use Rattle.vt_model.specs.Valid.{object_order}
 use Rattle.vt_model.specs.declared.model.Object.{Object}
 use Rattle.vt_model.specs.declared.model.GoneObject.{GoneObject}
-use Rattle.vt_model.proofs.MemberLemmas.{Contains-head, Contains-behind, Contains-find, find-some}
+use Rattle.vt_facts.proofs.MemberLemmas.{Contains-head, Contains-behind, Contains-find, find-some, Contains-from_map}
 use Rattle.vt_graph.specs.Asked.{gone_at}
 use Rattle.vt_graph.specs.Held.{Buried}
 use Rattle.vt_graph.specs.Passing.{with_raised}
@@ -29,8 +29,7 @@ use Rattle.vt_store.proofs.RisingLemmas.{inserted_is}
 use Rattle.vt_store.proofs.SameLemmas.{Decides-same_object, Decides-same_gone}
 use Rattle.vt_store.proofs.UndoneLemmas.{object_order_total, gone_order_total}
 use Rattle.vt_store.proofs.Linking.Lists.{filter-agree, without-none, without-then}
-use Rattle.vt_graph.proofs.RisingLemmas.{not_below_itself, first_below, tied_is}
-use Rattle.vt_graph.proofs.Linked.Stored.{Contains-from_map}
+use Rattle.vt_facts.proofs.RisingLemmas.{not_below_itself, first_below, tied_is}
 
 -- ---- lists
 

@@ -19,7 +19,7 @@ use Rattle.vt_model.specs.Deleting.{gone_order}
 use Rattle.vt_model.specs.Valid.{object_order}
 use Rattle.vt_model.specs.declared.model.Object.{Object}
 use Rattle.vt_model.specs.declared.model.GoneObject.{GoneObject}
-use Rattle.vt_model.proofs.MemberLemmas.{All-from_contains, Contains-map, Contains-filter}
+use Rattle.vt_facts.proofs.MemberLemmas.{All-from_contains, Contains-map, Contains-filter}
 use Rattle.vt_slots.specs.Ends.{capacity_of}
 use Rattle.vt_slots.specs.declared.slot.Side.{Side}
 use Rattle.vt_slots.specs.declared.slot.Side.TheVariants.{Outgoing, Incoming}
@@ -29,7 +29,7 @@ use Rattle.vt_graph.specs.Passing.{with_raised}
 use Rattle.vt_store.specs.Inside.Kept.{gone_of, objects_of, waiting_place, AreOf, raised_back, CanRaise}
 use Rattle.vt_store.proofs.RisingLemmas.{rises_front}
 use Rattle.vt_store.proofs.UndoneLemmas.{object_order_total}
-use Rattle.vt_graph.proofs.RisingLemmas.{not_below_itself}
+use Rattle.vt_facts.proofs.RisingLemmas.{not_below_itself}
 
 -- the last comes back first
 pub raised_back_push : (g : Model) (bs : List Buried) (b : Buried) → raised_back g (bs ++ b ∷ []) ≡ raised_back (with_raised g b.object) bs

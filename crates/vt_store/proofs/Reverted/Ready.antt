@@ -20,7 +20,7 @@ use Rattle.vt_model.specs.declared.model.Object.{Object}
 use Rattle.vt_model.specs.declared.model.GoneObject.{GoneObject}
 use Rattle.vt_model.specs.declared.model.AttributeValue.{AttributeValue}
 use Rattle.vt_model.specs.declared.model.Link.{Link}
-use Rattle.vt_model.proofs.MemberLemmas.{All-from_contains, Contains-head, Contains-map, Contains-from_filter, find-some}
+use Rattle.vt_facts.proofs.MemberLemmas.{All-from_contains, Contains-head, Contains-map, Contains-from_filter, find-some}
 use Rattle.vt_graph.specs.Held.{Held, Place, Buried}
 use Rattle.vt_graph.specs.Asked.{live_at}
 use Rattle.vt_graph.specs.Having.{HasAttribute}

@@ -7,7 +7,7 @@ use Rattle.vt_base.specs.declared.numbers.ObjId.{ObjId}
 use Rattle.vt_model.specs.Model.{Model}
 use Rattle.vt_model.specs.declared.model.Object.{Object}
 use Rattle.vt_model.specs.declared.model.GoneObject.{GoneObject}
-use Rattle.vt_model.proofs.MemberLemmas.{Contains-find, Contains-from_filter}
+use Rattle.vt_facts.proofs.MemberLemmas.{Contains-find, Contains-from_filter}
 use Rattle.vt_graph.specs.Held.{Held, Place, Buried}
 use Rattle.vt_graph.specs.Asked.{live_at, gone_at}
 use Rattle.vt_graph.specs.Room.{KeepsRoom, KeepsOthersRoom}

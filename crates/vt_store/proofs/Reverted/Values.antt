@@ -8,8 +8,8 @@ use Rattle.std.proofs.lemmas.List.Kept.{IsStrictlySortedBy-filter}
 use Rattle.vt_model.specs.Model.{Model}
 use Rattle.vt_model.specs.Assigning.{value_order, is_value_of}
 use Rattle.vt_model.specs.declared.model.AttributeValue.{AttributeValue}
-use Rattle.vt_model.proofs.MemberLemmas.{Contains-head, Contains-behind, Contains-filter, Contains-from_filter, Contains-insert_key_cases, Contains-insert_key_old}
-use Rattle.vt_model.proofs.OrderedLemmas.{IsStrictlySortedBy-insert_key}
+use Rattle.vt_facts.proofs.MemberLemmas.{Contains-head, Contains-behind, Contains-filter, Contains-from_filter, Contains-insert_key_cases, Contains-insert_key_old}
+use Rattle.vt_facts.proofs.OrderedLemmas.{IsStrictlySortedBy-insert_key}
 use Rattle.vt_model.proofs.Valid.Defaults.{is_value_of-yes}
 use Rattle.vt_store.specs.Edits.{same_value, without}
 use Rattle.vt_store.specs.Inside.Assigned.{without_values, with_values}
@@ -17,7 +17,7 @@ use Rattle.vt_store.proofs.EditLemmas.{known}
 use Rattle.vt_store.proofs.SameLemmas.{Decides-same_value}
 use Rattle.vt_store.proofs.AssignLemmas.{one_value}
 use Rattle.vt_store.proofs.Linking.Lists.{filter-agree, without-none, without-cons}
-use Rattle.vt_graph.proofs.RisingLemmas.{same_items, tied_is, Contains-insert_key_there}
+use Rattle.vt_facts.proofs.RisingLemmas.{same_items, tied_is, Contains-insert_key_there}
 use Rattle.vt_graph.proofs.ValueLemmas.{value_order_total}
 
 -- all are values of one list that rises

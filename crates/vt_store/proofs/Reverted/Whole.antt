@@ -16,7 +16,7 @@ use Rattle.vt_model.specs.declared.model.Object.{Object}
 use Rattle.vt_model.specs.declared.model.GoneObject.{GoneObject}
 use Rattle.vt_model.specs.declared.model.AttributeValue.{AttributeValue}
 use Rattle.vt_model.specs.declared.model.Link.{Link}
-use Rattle.vt_model.proofs.MemberLemmas.{Contains-head, Contains-map}
+use Rattle.vt_facts.proofs.MemberLemmas.{Contains-head, Contains-map}
 use Rattle.vt_graph.specs.Held.{Buried}
 use Rattle.vt_store.specs.Edits.{ListChange, Edit, same_object, same_gone, same_value, same_link, without, net, edit_of, undone}
 use Rattle.vt_store.specs.Inside.Kept.{gone_of, objects_of, kept_edit, IsFresh, settled}
@@ -30,7 +30,7 @@ use Rattle.vt_store.proofs.Linking.Lists.{without-none}
 use Rattle.vt_store.proofs.Linking.Steps.{without_back_is, with_each_is}
 use Rattle.vt_store.proofs.Reverted.Values.{without_values_is, with_values_is}
 use Rattle.vt_store.proofs.Reverted.Objects.{AreGone, insert_back, inserted_back_is, one_object, without_created, raised_back_is}
-use Rattle.vt_graph.proofs.ChosenLemmas.{filter-all}
+use Rattle.vt_facts.proofs.ChosenLemmas.{filter-all}
 
 -- the edit that is kept is what changed from the model without it
 pub record IsKept (meta : Metamodel) (g : Model) (next : ℕ) (created : Option Object) (deleted : List Buried) (values : ListChange AttributeValue) (links : ListChange Link) : Type 0 where

@@ -5,10 +5,11 @@ use Rattle.vt_model.specs.Metamodel.{Metamodel}
 use Rattle.vt_model.specs.Model.{Model, object_named, never_existed, was_deleted, feature_at}
 use Rattle.vt_model.specs.Linking.{reference_of, is_target, linked}
 use Rattle.vt_model.specs.Containing.{closes_cycle}
-use Rattle.vt_model.specs.Effect.{first_of, unless_refused, contains_asked}
+use Rattle.vt_model.specs.Effect.{unless_refused, contains_asked}
 use Rattle.vt_model.specs.declared.model.Link.{Link}
 use Rattle.vt_model.specs.declared.change.Refusal.{Refusal}
 use Rattle.vt_model.specs.declared.change.Refusal.TheVariants.{UnknownObject, Gone, UnknownFeature, WrongKind, WrongTarget, ContainmentCycle}
+use Rattle.vt_facts.specs.Firsts.{first_of}
 
 -- of a link by three names
 abbrev pub link_tests : Metamodel → Model → List ℕ → List ℕ → List ℕ → List (Bool × Refusal)

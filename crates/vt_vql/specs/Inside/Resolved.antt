@@ -8,8 +8,3 @@ abbrev pub Makes : {A : Type 0} → Result A Stuck → Option A → Type 0
 Makes (Ok x) made = made ≡ Some x
 Makes (Err NotNarrow) made = made ≡ None
 Makes (Err NoMemory) made = Unit {0}
-
--- what is made, behind what was there before
-abbrev pub with_front : {A : Type 0} → List A → Option (List A) → Option (List A)
-with_front before None = None
-with_front before (Some xs) = Some (before ++ xs)

@@ -1,7 +1,7 @@
 use Rattle.std.proofs.Common.{◌≡◌}
 use Rattle.serde_json.specs.View.{members_view}
 use Rattle.vt_json.specs.Shape.{entries_in}
-use Rattle.vt_json.specs.Inside.Rest.{with_front}
+use Rattle.vt_facts.specs.Parts.{with_front}
 use Rattle.vt_json.proofs.members.read_members.Given as goal
 
 -- the entries so far and those that the iterator has left are those of the whole

@@ -1,7 +1,7 @@
 use Rattle.std.proofs.Common.{◌≡◌, drop}
 use Rattle.serde_json.specs.View.{items_view}
 use Rattle.vt_json.specs.Shape.{items_in}
-use Rattle.vt_json.specs.Inside.Rest.{with_front}
+use Rattle.vt_facts.specs.Parts.{with_front}
 use Rattle.vt_json.proofs.shape.read_items.Given as goal
 
 -- the items so far and those of the rest are those of the whole

@@ -1,7 +1,7 @@
 use Rattle.std.proofs.Common.{◌≡◌, ◌∙◌, [], ◌∷◌, sym, ap, subst, rules}
 use Rattle.std.specs.Prelude.{not}
 use Rattle.std.proofs.lemmas.Result.{IfOk-weaker}
-use Rattle.vt_model.specs.Words.{is_distinct}
+use Rattle.vt_facts.specs.Names.{is_distinct}
 use Rattle.vt_meta.specs.Faults.{has_clash}
 use Rattle.vt_model.specs.Above.{class_id, AreThere, IsAbove}
 use Rattle.vt_meta.specs.Inside.Features.{names_at_each}

@@ -1,7 +1,7 @@
 use Rattle.std.proofs.Common.{◌≡◌, ◌<◌, ◌+◌, ◌∙◌, sym, ap, subst, length, take, drop, get_or, true, false, Some, rules, arith}
 use Rattle.std.specs.Prelude.{◌||◌, not}
 use Rattle.vt_meta.specs.Declarations.{item_names, declared_names}
-use Rattle.vt_model.specs.Words.{is_distinct}
+use Rattle.vt_facts.specs.Names.{is_distinct}
 use Rattle.vt_meta.specs.Faults.{first_place, is_bad_class}
 use Rattle.vt_model.specs.Places.{FindsIn, AddsPlace}
 use Rattle.vt_meta.proofs.FirstLemmas.{first_place_hit, first_place_miss}

@@ -1,6 +1,6 @@
 use Rattle.std.proofs.Common.{◌≡◌, ◌<◌, ◌∙◌, sym, ap, length, get_or, true, false, rules}
 use Rattle.std.specs.Prelude.{◌||◌, not}
-use Rattle.vt_model.specs.Words.{is_distinct}
+use Rattle.vt_facts.specs.Names.{is_distinct}
 use Rattle.vt_meta.specs.Faults.{is_bad_enum}
 use Rattle.vt_meta.proofs.FirstLemmas.{first_place_hit, first_place_miss}
 use Rattle.vt_meta.proofs.DuplicateLemmas.{is_taken-seen, IsItem-enum, FindsIn-item}

@@ -1,5 +1,5 @@
 use Rattle.std.proofs.Common.{◌≡◌, take, true}
-use Rattle.vt_model.specs.Words.{is_distinct}
+use Rattle.vt_facts.specs.Names.{is_distinct}
 use Rattle.vt_model.specs.Places.{FindsIn}
 use Rattle.vt_meta.proofs.duplicates.is_distinct.Given as goal
 

@@ -1,7 +1,7 @@
 -- What was found is what goes, and after each step the model is what it is to be.
 use Rattle.std.proofs.Common.{◌≡◌, ◌∙◌, ◌++◌, map, sym, ap, subst}
 use Rattle.std.specs.Prelude.{Contains}
-use Rattle.vt_model.proofs.MemberLemmas.{All-from_contains}
+use Rattle.vt_facts.proofs.MemberLemmas.{All-from_contains}
 use Rattle.vt_graph.specs.Room.{KeepsRoom}
 use Rattle.vt_store.specs.Undoing.{HeldEdit}
 use Rattle.vt_store.specs.Inside.Kept.{deletion_edit, waiting_place}

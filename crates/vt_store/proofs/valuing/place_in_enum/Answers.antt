@@ -1,6 +1,6 @@
 use Rattle.std.proofs.Common.{◌≡◌, rules, position, Some, ap, ◌∙◌}
 use Rattle.std.specs.Prelude.{slice_get}
-use Rattle.vt_model.specs.Words.{is_name}
+use Rattle.vt_facts.specs.Names.{is_name}
 use Rattle.vt_store.proofs.valuing.place_in_enum.Goals as goal
 
 -- the literals are those of the enum that is there

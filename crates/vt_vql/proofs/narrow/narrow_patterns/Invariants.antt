@@ -1,5 +1,5 @@
 use Rattle.std.proofs.Common.{◌≡◌, drop}
-use Rattle.vt_vql.specs.Inside.Resolved.{with_front}
+use Rattle.vt_facts.specs.Parts.{with_front}
 use Rattle.vt_vql.specs.Resolving.{all_of, narrow_pattern}
 use Rattle.vt_vql.proofs.narrow.narrow_patterns.Given as goal
 

@@ -1,7 +1,7 @@
 use Rattle.std.proofs.Common.{◌≡◌, ◌+◌, ◌*◌, ◌^◌, ◌<◌, drop, length}
 use Rattle.vt_vql.specs.Scope.{with_constraints}
 use Rattle.vt_vql.specs.Resolving.{constraints_from}
-use Rattle.vt_vql.specs.Inside.Resolved.{with_front}
+use Rattle.vt_facts.specs.Parts.{with_front}
 use Rattle.vt_vql.proofs.resolver.constraints.Given as goal
 
 -- what is out, and what the rest gives over the variables so far, is what the whole gives; and

@@ -1,5 +1,5 @@
 use Rattle.std.proofs.Common.{◌≡◌, ◌+◌, drop, length}
-use Rattle.vt_vql.specs.Inside.Resolved.{with_front}
+use Rattle.vt_facts.specs.Parts.{with_front}
 use Rattle.vt_vql.specs.Resolving.{all_of, param_of}
 use Rattle.vt_vql.proofs.resolver.params.Given as goal
 

@@ -1,6 +1,6 @@
 use Rattle.std.proofs.Common.{◌∙◌}
 use Rattle.vt_slots.specs.Ends.{number_order}
-use Rattle.vt_graph.proofs.RisingLemmas.{rises-none}
+use Rattle.vt_facts.proofs.RisingLemmas.{rises-none}
 use Rattle.vt_graph.proofs.Linked.Held.{others_found}
 use Rattle.vt_graph.proofs.graph.Graph.others.Goals as goal
 

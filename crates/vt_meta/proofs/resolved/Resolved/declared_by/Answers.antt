@@ -1,6 +1,6 @@
 use Rattle.std.proofs.Common.{◌≡◌, ◌∙◌, sym, ap, slice_get, position, Some, rules}
 use Rattle.std.specs.Prelude.{option_and_then}
-use Rattle.vt_model.specs.Words.{is_name}
+use Rattle.vt_facts.specs.Names.{is_name}
 use Rattle.vt_meta.specs.declared.document.ClassDocument.{ClassDocument}
 use Rattle.vt_meta.proofs.ResolvedLemmas.{declared_some}
 use Rattle.vt_meta.proofs.resolved.Resolved.declared_by.Goals as goal
