@@ -1,9 +1,9 @@
--- what the contracts say, in reading order
+-- what is promised to callers: read these from the top
 pub mod Command
 pub mod Lines
 pub mod Refusals
 pub mod Lists
 pub mod Result
 pub mod Answer
--- what the functions inside the crate promise each other
+-- words of private contracts
 pub mod Inside
