@@ -44,6 +44,7 @@ const VALUES: [&str; 10] = [
 ];
 
 /// Numbers that look like chance, and the changes that they choose.
+#[derive(Drop)]
 pub(super) struct Dice {
     state: u64,
     first: u32,
@@ -68,10 +69,7 @@ impl Dice {
 
     fn word(&mut self, words: &[&'static str]) -> &'static str {
         let roll = self.roll() as usize;
-        words
-            .get(roll % words.len().max(1))
-            .copied()
-            .unwrap_or("")
+        words.get(roll % words.len().max(1)).copied().unwrap_or("")
     }
 
     fn number(&mut self) -> u32 {
