@@ -3,9 +3,9 @@ use Rattle.std.proofs.Common.{ℕ, ◌≡◌, ◌≢◌, ◌⊎◌, List, Option
 use Rattle.vt_base.specs.Base.{Counts}
 use Rattle.vt_base.specs.declared.value.Value.{Value}
 use Rattle.vt_outside.specs.Shelf.{NamedFiles}
-use Rattle.vt_meta.specs.Base.{counts_of}
-use Rattle.vt_meta.specs.Metamodel.{Metamodel, enum_names}
-use Rattle.vt_meta.specs.Model.{Model}
+use Rattle.vt_model.specs.Base.{counts_of}
+use Rattle.vt_model.specs.Metamodel.{Metamodel, enum_names}
+use Rattle.vt_model.specs.Model.{Model}
 use Rattle.vt_graph.specs.Asked.{all_names}
 use Rattle.vt_query.specs.Calls.{IsAcyclic}
 use Rattle.vt_query.specs.Narrow.{IsNarrow}

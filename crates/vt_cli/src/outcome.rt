@@ -1,6 +1,6 @@
 // What the words come to over a shelf, and how it is written.
 ghost use Rattle.std.specs.Prelude.{◌≡◌, None, Some, IfOk};
-ghost use Rattle.vt_meta.specs.Sound.{IsSound};
+ghost use Rattle.vt_model.specs.Sound.{IsSound};
 ghost use Rattle.vt_cli.specs.Command.{command_of, AsksNothing, IsWithoutRows};
 ghost use Rattle.vt_cli.specs.Result.{usage, shown, IsDueToModel, IsDueToTexts};
 ghost use Rattle.vt_cli.specs.Inside.Prepared.{AreSmall, IsOfFiles, Prepares, Delivers};

@@ -1,2 +1,2 @@
--- what the contracts say, in reading order
+-- words of public clauses; read them from the top
 pub mod Writable

@@ -6,11 +6,11 @@ use Rattle.vt_grammar.specs.Grammar.{Grammar, nothing, token, seq, alt, star, ma
 use Rattle.vt_grammar.specs.Reading.{Read, ◌>>=◌, is_empty, first, more, apart, is_decided, starts, many, read}
 use Rattle.vt_grammar.proofs.Exact.{Exact, Outcome}
 use Rattle.vt_grammar.specs.Fault.{IsFault}
-use Rattle.vt_grammar.proofs.PartLemmas.{append_nil, spells_part, not_true, none_open}
+use Rattle.vt_grammar.proofs.PartLemmas.{append_nil, spells_part, none_open}
 use Rattle.vt_grammar.proofs.ExactLemmas.{ok_same, not_ok}
 use Rattle.vt_grammar.proofs.RepetitionLemmas.{shorter, shorter_read}
 use Rattle.vt_grammar.proofs.ReadingLemmas.{exact}
-use Rattle.vt_facts.proofs.BoolLemmas.{and_left, and_right}
+use Rattle.vt_facts.proofs.BoolLemmas.{and_left, and_right, not_true}
 
 -- a front of two joined lists is a front of the first, or the first and a front of the second
 record Overlap (p q front back : List Lexeme) : Type 0 where

@@ -34,11 +34,6 @@ pub both : (a b : Bool) → a ≡ true → b ≡ true → (a && b) ≡ true
 both true b h k = k
 both false b h k = cc
 
--- what is not true is false
-pub not_true : (a : Bool) → not a ≡ true → a ≡ false
-not_true true h = cc
-not_true false h = refl
-
 -- what holds of each item of a list holds of the one at a place
 pub all_get : (P : Symbol → Bool) (xs : List Symbol) → list_all P xs ≡ true → (i : ℕ) → i < length xs → P (get_or xs i symbol.Identifier) ≡ true
 all_get P [] h i b = absurd (omega arith)

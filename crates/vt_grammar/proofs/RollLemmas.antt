@@ -9,8 +9,7 @@ use Rattle.vt_grammar.specs.Gives.{ahead, Fails}
 use Rattle.vt_grammar.specs.declared.stop.Stop.{Stop}
 use Rattle.vt_grammar.specs.declared.stop.Stop.TheVariants.{Fault, NoMemory}
 use Rattle.vt_grammar.proofs.FaultLemmas.{unroll, shrinks}
-use Rattle.vt_grammar.proofs.PartLemmas.{not_true}
-use Rattle.vt_facts.proofs.BoolLemmas.{and_left, and_right}
+use Rattle.vt_facts.proofs.BoolLemmas.{and_left, and_right, not_true}
 
 -- nothing before a reading leaves it as it is
 pub ahead_nil : {A : Type 0} (r : Read (List A)) → ahead [] r ≡ r

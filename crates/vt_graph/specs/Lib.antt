@@ -1,8 +1,8 @@
--- what the contracts say, in reading order
+-- words of public clauses; read them from the top
 pub mod Held
 pub mod Asked
 pub mod Having
 pub mod Room
 pub mod Passing
--- what the functions inside the crate promise each other
+-- words of private clauses alone
 pub mod Inside

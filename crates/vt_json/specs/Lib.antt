@@ -1,6 +1,6 @@
--- what the contracts say, in reading order
+-- words of public clauses; read them from the top
 pub mod Json
 pub mod Shape
 pub mod Names
--- what the functions inside the crate promise each other
+-- words of private clauses alone
 pub mod Inside

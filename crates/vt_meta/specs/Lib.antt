@@ -1,8 +1,8 @@
--- what the contracts say, in reading order
+-- words of public clauses; read them from the top
 pub mod Document
 pub mod Declarations
 pub mod Built
 pub mod Faults
 pub mod Reading
--- what the functions inside the crate promise each other
+-- words of private clauses alone
 pub mod Inside

@@ -1,4 +1,4 @@
--- what the contracts say, in reading order
+-- words of public clauses; read them from the top
 pub mod Metamodel
 pub mod Sound
 pub mod Model
@@ -17,5 +17,5 @@ pub mod Base
 -- what the reader of documents is told
 pub mod Places
 pub mod Above
--- what the functions inside the crate promise each other
+-- words of private clauses alone
 pub mod Inside

@@ -1,4 +1,4 @@
--- what the contracts say, in reading order
+-- words of public clauses; read them from the top
 pub mod Terms
 pub mod Holding
 pub mod Tables

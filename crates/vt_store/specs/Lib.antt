@@ -1,5 +1,5 @@
--- what the contracts say, in reading order
+-- words of public clauses; read them from the top
 pub mod Edits
 pub mod Undoing
--- what the functions inside the crate promise each other
+-- words of private clauses alone
 pub mod Inside

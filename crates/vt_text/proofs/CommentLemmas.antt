@@ -2,8 +2,10 @@
 use Rattle.std.proofs.Common.{◌≡◌, inl, inr, ℕ, ◌+◌, ◌==◌, ◌&&◌, Bool, true, false, cond, List, [], ◌∷◌, ◌++◌, length, Option, Some, None, refl, sym, ◌∙◌, ap, arith, append_assoc, length-append, codes}
 use Rattle.vt_text.specs.Lexicon.{is_in_line}
 use Rattle.vt_text.specs.Inside.Scan.{cut_line_comment, piece_up_to, comment_end, begins_with, plus}
-use Rattle.vt_text.proofs.TestLemmas.{both_true, eq_is, and_false}
+use Rattle.vt_text.proofs.TestLemmas.{both_true}
 use Rattle.vt_text.proofs.FrontLemmas.{prefix_run, Sound}
+use Rattle.vt_facts.proofs.NumberLemmas.{equal_numbers}
+use Rattle.vt_facts.proofs.BoolLemmas.{and-false}
 
 abbrev pub IsOpen : List ℕ → Type 0
 IsOpen inner = (x y : List ℕ) → inner ≡ x ++ codes "*/" ++ y → ⊥
@@ -32,12 +34,12 @@ open_cons b inner o h [] y e =
 open_cons b inner o h (x ∷ xs) y e = o xs y (cc)
 
 open_front : (inner back : List ℕ) (t : Bool) → (t && begins_with 47 (inner ++ 42 ∷ 47 ∷ back)) ≡ false → (t && begins_with 47 inner) ≡ false
-open_front [] back t h = and_false t
+open_front [] back t h = and-false t
 open_front (c ∷ inner) back t h = h
 
 slash_is : (bytes : List ℕ) → begins_with 47 bytes ≡ true → (back : List ℕ) × (bytes ≡ 47 ∷ back)
 slash_is [] h = absurd (cc)
-slash_is (b ∷ bytes) h = (bytes, cc (eq_is b 47 h))
+slash_is (b ∷ bytes) h = (bytes, cc (equal_numbers b 47 h))
 
 comment_after : (b : ℕ) (bytes : List ℕ) (o : Option ℕ) → (b == 42 && begins_with 47 bytes) ≡ false → CommentSound bytes o → CommentSound (b ∷ bytes) (plus 1 o)
 comment_after b bytes None h s = tt
@@ -56,17 +58,17 @@ comment_sound (b ∷ bytes) =
       | true ↦ λ h.
           let parts = both_true (b == 42) (begins_with 47 bytes) h in
           let slash = slash_is bytes parts.1 in
-          record { inner = []; back = slash.0; whole = cc (eq_is b 42 parts.0, slash.1); long = refl; first = nothing_open }
+          record { inner = []; back = slash.0; whole = cc (equal_numbers b 42 parts.0, slash.1); long = refl; first = nothing_open }
       | false ↦ λ h. comment_after b bytes (comment_end bytes) h (comment_sound bytes)
     ] refl
 
 open_test : (b : ℕ) (inner back : List ℕ) → IsOpen (b ∷ inner) → (b == 42 && begins_with 47 (inner ++ 42 ∷ 47 ∷ back)) ≡ false
-open_test b [] back o = and_false (b == 42)
+open_test b [] back o = and-false (b == 42)
 open_test b (c ∷ inner) back o =
     elim (b == 42) as (λ t. (b == 42) ≡ t → (t && c == 47) ≡ false) [
       | true ↦ λ h.
           elim (c == 47) as (λ t. (c == 47) ≡ t → t ≡ false) [
-            | true ↦ λ k. absurd (o [] inner (cc (eq_is b 42 h, eq_is c 47 k)))
+            | true ↦ λ k. absurd (o [] inner (cc (equal_numbers b 42 h, equal_numbers c 47 k)))
             | false ↦ λ _. refl
           ] refl
       | false ↦ λ _. refl

@@ -10,13 +10,14 @@ use Rattle.vt_text.specs.declared.token.TokenKind.{TokenKind}
 use Rattle.vt_text.specs.declared.token.TokenKind.TheVariants.{Word, Blank, Number, Quoted, Mark}
 use Rattle.vt_text.specs.declared.piece.Opening.{Opening}
 use Rattle.vt_text.specs.declared.piece.Opening.TheVariants.{Letter, Digit, Quote, Return, Space, Other}
-use Rattle.vt_text.proofs.TestLemmas.{both_true, either_false, eq_is, found_item, same_text}
+use Rattle.vt_text.proofs.TestLemmas.{both_true, found_item, same_text}
 use Rattle.vt_text.proofs.FrontLemmas.{digits_go_on, prefix_exact, Opens, opens, opening-letter, opening-digit, Sound}
 use Rattle.vt_text.proofs.WordLemmas.{sound-word, numeral_exact, sound-number}
 use Rattle.vt_text.proofs.StringLemmas.{string_sound, sound-string, string_exact}
 use Rattle.vt_text.proofs.CommentLemmas.{IsOpen, comment_exact}
 use Rattle.vt_text.proofs.MarkLemmas.{opens_comment_is, no_long_mark, sound-mark}
-use Rattle.vt_facts.proofs.BoolLemmas.{not_true}
+use Rattle.vt_facts.proofs.BoolLemmas.{not_true, or_none}
+use Rattle.vt_facts.proofs.NumberLemmas.{equal_numbers}
 
 -- All pieces.
 
@@ -29,7 +30,7 @@ sound-return : (rest : List ℕ) → Sound (13 ∷ rest) (piece_if (begins_with 
 sound-return [] = tt
 sound-return (b ∷ rest) =
     elim (b == 10) as (λ t. (b == 10) ≡ t → Sound (13 ∷ b ∷ rest) (piece_if t None 2)) [
-      | true ↦ λ h. record { front = 13 ∷ b ∷ []; back = rest; whole = refl; long = refl; stands = inl (inr (inr (inr (ap (λ n. 13 ∷ n ∷ []) (eq_is b 10 h))))) }
+      | true ↦ λ h. record { front = 13 ∷ b ∷ []; back = rest; whole = refl; long = refl; stands = inl (inr (inr (inr (ap (λ n. 13 ∷ n ∷ []) (equal_numbers b 10 h))))) }
       | false ↦ λ _. tt
     ] refl
 
@@ -55,7 +56,7 @@ piece_same k l m n h e = cc
 word_kind-word : (b n : ℕ) → (b ≡ 95 → n ≡ 0 → ⊥) → word_kind b n ≡ Word
 word_kind-word b n h =
     elim (b == 95 && n == 0) as (λ t. (b == 95 && n == 0) ≡ t → cond t Blank Word ≡ Word) [
-      | true ↦ λ e. let parts = both_true (b == 95) (n == 0) e in absurd (h (eq_is b 95 parts.0) (eq_is n 0 parts.1))
+      | true ↦ λ e. let parts = both_true (b == 95) (n == 0) e in absurd (h (equal_numbers b 95 parts.0) (equal_numbers n 0 parts.1))
       | false ↦ λ _. refl
     ] refl
 
@@ -87,7 +88,7 @@ opening-single : (a : ℕ) → is_single_mark a ≡ true → opening a ≡ Other
 unfolding is_single_mark is_other opening
 opening-single a h =
     let found = found_item (λ m. is_other (opening m)) (λ m. m == a) (codes "(){}[],;:.#@=<>+-*/%!&|?") refl h in
-    subst (λ m. opening m ≡ Other) (eq_is found.0 a found.2) (other_is (opening found.0) found.1)
+    subst (λ m. opening m ≡ Other) (equal_numbers found.0 a found.2) (other_is (opening found.0) found.1)
 
 -- a mark of two bytes begins as no other piece does
 begins_mark : List ℕ → Bool
@@ -105,7 +106,7 @@ double_parts : (a b : ℕ) → is_double_mark (a ∷ b ∷ []) ≡ true → (ope
 unfolding begins_mark
 double_parts a b h =
     let parts = both_true (is_other (opening a)) (not ((a == 47 && b == 47) || (a == 47 && b == 42))) (double_begins (a ∷ b ∷ []) h) in
-    let more = either_false (a == 47 && b == 47) (a == 47 && b == 42) (not_true _ parts.1) in
+    let more = or_none (a == 47 && b == 47) (a == 47 && b == 42) (not_true _ parts.1) in
     (other_is (opening a) parts.0, more.0, more.1)
 
 exact-mark : (bytes rest : List ℕ) → IsMark bytes → EndsMark bytes rest → cut (bytes ++ rest) ≡ piece_of (Some Mark) (length bytes)
@@ -113,8 +114,8 @@ unfolding cut
 exact-mark [] rest h s = absurd h
 exact-mark (a ∷ []) [] h s = rw (opening-single a h) (rw h refl)
 exact-mark (a ∷ []) (b ∷ rest) h s =
-    let parts = either_false (is_double_mark (a ∷ b ∷ [])) (opens_comment (a ∷ b ∷ [])) s in
-    let more = either_false (a == 47 && b == 47) (a == 47 && b == 42) (sym (opens_comment_is a b) ∙ parts.1) in
+    let parts = or_none (is_double_mark (a ∷ b ∷ [])) (opens_comment (a ∷ b ∷ [])) s in
+    let more = or_none (a == 47 && b == 47) (a == 47 && b == 42) (sym (opens_comment_is a b) ∙ parts.1) in
     rw (opening-single a h) (rw more.0 (rw more.1 (rw parts.0 (rw h refl))))
 exact-mark (a ∷ b ∷ []) rest h s =
     let parts = double_parts a b h in

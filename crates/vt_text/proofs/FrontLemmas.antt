@@ -8,8 +8,9 @@ use Rattle.vt_text.specs.Inside.Scan.{opening}
 use Rattle.vt_text.specs.declared.piece.Opening.{Opening}
 use Rattle.vt_text.specs.declared.piece.Opening.TheVariants.{Letter, Digit, Quote, Return, Space, Other}
 use Rattle.vt_text.specs.declared.piece.Cut.{Cut}
-use Rattle.vt_text.proofs.TestLemmas.{both_true, eq_is}
+use Rattle.vt_text.proofs.TestLemmas.{both_true}
 use Rattle.vt_facts.proofs.BoolLemmas.{or_right}
+use Rattle.vt_facts.proofs.NumberLemmas.{equal_numbers}
 
 -- Runs.
 
@@ -68,10 +69,10 @@ opens b =
             | true ↦ λ h. h
             | false ↦ λ _.
                 elim (b == 34) as (λ t. (b == 34) ≡ t → Opens b (cond t Quote (cond (b == 13) Return (cond (b == 32 || b == 9 || b == 10) Space Other)))) [
-                  | true ↦ λ h. eq_is b 34 h
+                  | true ↦ λ h. equal_numbers b 34 h
                   | false ↦ λ _.
                       elim (b == 13) as (λ t. (b == 13) ≡ t → Opens b (cond t Return (cond (b == 32 || b == 9 || b == 10) Space Other))) [
-                        | true ↦ λ h. eq_is b 13 h
+                        | true ↦ λ h. equal_numbers b 13 h
                         | false ↦ λ _.
                             elim (b == 32 || b == 9 || b == 10) as (λ t. (b == 32 || b == 9 || b == 10) ≡ t → Opens b (cond t Space Other)) [
                               | true ↦ λ h. space_is b h

@@ -14,8 +14,9 @@ use Rattle.vt_text.specs.Lexicon.{begins_word, goes_on, IsMark, is_single_mark, 
 use Rattle.vt_text.specs.Spelling.{Spells}
 use Rattle.vt_text.specs.Lexemes.{marks, named_in}
 use Rattle.vt_text.specs.Spans.{IsSlice, AreSlices}
-use Rattle.vt_text.proofs.TestLemmas.{both_true, eq_is, found_item, same_text}
+use Rattle.vt_text.proofs.TestLemmas.{both_true, found_item, same_text}
 use Rattle.vt_text.proofs.SpellingLemmas.{are_slices}
+use Rattle.vt_facts.proofs.NumberLemmas.{equal_numbers}
 
 -- Slices.
 
@@ -59,7 +60,7 @@ low_mark : (a : ℕ) → is_single_mark a ≡ true → a < 128
 unfolding is_single_mark is_low
 low_mark a h =
     let found = found_item is_low (λ m. m == a) (codes "(){}[],;:.#@=<>+-*/%!&|?") refl h in
-    subst (λ m. m < 128) (eq_is found.0 a found.2) (low_is found.0 found.1)
+    subst (λ m. m < 128) (equal_numbers found.0 a found.2) (low_is found.0 found.1)
 
 IsAscii-double_mark : (bytes : List ℕ) → is_double_mark bytes ≡ true → IsAscii bytes
 unfolding is_double_mark is_low
@@ -128,7 +129,7 @@ unfolding marks is_single_mark is_double_mark
 each_mark_is_listed [] h = absurd h
 each_mark_is_listed (a ∷ []) h =
     let found = found_item (λ m. is_some (named_in marks (m ∷ []))) (λ m. m == a) (codes "(){}[],;:.#@=<>+-*/%!&|?") refl h in
-    subst (λ m. is_some (named_in marks (m ∷ [])) ≡ true) (eq_is found.0 a found.2) found.1
+    subst (λ m. is_some (named_in marks (m ∷ [])) ≡ true) (equal_numbers found.0 a found.2) found.1
 each_mark_is_listed (a ∷ b ∷ bytes) h =
     let found = found_item (λ l. is_some (named_in marks l)) (pointwise nat_eq (a ∷ b ∷ bytes)) (codes "::" ∷ codes "==" ∷ codes "!=" ∷ codes "<=" ∷ codes ">=" ∷ codes "&&" ∷ codes "||" ∷ []) refl h in
     subst (λ l. is_some (named_in marks l) ≡ true) (sym (same_text (a ∷ b ∷ bytes) found.0 found.2)) found.1

@@ -5,9 +5,9 @@ use Rattle.vt_text.specs.Lexicon.{is_plain, escaped, Writes}
 use Rattle.vt_text.specs.Lexicon.Writes.{nothing, plain, escape}
 use Rattle.vt_text.specs.Inside.Scan.{piece_up_to, string_end, plus}
 use Rattle.vt_text.specs.declared.token.TokenKind.TheVariants.{Quoted}
-use Rattle.vt_text.proofs.TestLemmas.{either_false, eq_is}
+use Rattle.vt_facts.proofs.NumberLemmas.{equal_numbers}
 use Rattle.vt_text.proofs.FrontLemmas.{Sound}
-use Rattle.vt_facts.proofs.BoolLemmas.{not_true}
+use Rattle.vt_facts.proofs.BoolLemmas.{not_true, or_none}
 
 pub record IsString (bytes : List ℕ) (n : ℕ) : Type 0 where
   pub inner : List ℕ
@@ -39,18 +39,18 @@ pub string_sound : (bytes : List ℕ) → StringSound bytes (string_end bytes)
 string_sound [] = tt
 string_sound (b ∷ []) =
     elim (b == 34) as (λ t. (b == 34) ≡ t → StringSound (b ∷ []) (cond t (Some 1) None)) [
-      | true ↦ λ h. record { inner = []; text = []; back = []; whole = cc (eq_is b 34 h); long = refl; writes = nothing }
+      | true ↦ λ h. record { inner = []; text = []; back = []; whole = cc (equal_numbers b 34 h); long = refl; writes = nothing }
       | false ↦ λ _. tt
     ] refl
 string_sound (b ∷ c ∷ bytes) =
     elim (b == 34) as (λ t. (b == 34) ≡ t → StringSound (b ∷ c ∷ bytes) (cond t (Some 1) (cond (b == 10) None (cond (b == 92) (cond (is_some (escaped c)) (plus 2 (string_end bytes)) None) (plus 1 (string_end (c ∷ bytes))))))) [
-      | true ↦ λ h. record { inner = []; text = []; back = c ∷ bytes; whole = cc (eq_is b 34 h); long = refl; writes = nothing }
+      | true ↦ λ h. record { inner = []; text = []; back = c ∷ bytes; whole = cc (equal_numbers b 34 h); long = refl; writes = nothing }
       | false ↦ λ h.
           elim (b == 10) as (λ t. (b == 10) ≡ t → StringSound (b ∷ c ∷ bytes) (cond t None (cond (b == 92) (cond (is_some (escaped c)) (plus 2 (string_end bytes)) None) (plus 1 (string_end (c ∷ bytes)))))) [
             | true ↦ λ _. tt
             | false ↦ λ k.
                 elim (b == 92) as (λ t. (b == 92) ≡ t → StringSound (b ∷ c ∷ bytes) (cond t (cond (is_some (escaped c)) (plus 2 (string_end bytes)) None) (plus 1 (string_end (c ∷ bytes))))) [
-                  | true ↦ λ l. string_after_escape b c bytes (escaped c) (string_end bytes) (eq_is b 92 l) refl (string_sound bytes)
+                  | true ↦ λ l. string_after_escape b c bytes (escaped c) (string_end bytes) (equal_numbers b 92 l) refl (string_sound bytes)
                   | false ↦ λ l. string_after_plain b (c ∷ bytes) (string_end (c ∷ bytes)) (plain_is b h k l) (string_sound (c ∷ bytes))
                 ] refl
           ] refl
@@ -68,8 +68,8 @@ sound-string rest (Some n) s = record {
 
 plain_parts : (b : ℕ) → is_plain b ≡ true → ((b == 34) ≡ false) × ((b == 10) ≡ false) × ((b == 92) ≡ false)
 plain_parts b h =
-    let parts : ((b == 34 || b == 92) ≡ false) × ((b == 10) ≡ false) = either_false (b == 34 || b == 92) (b == 10) (not_true _ h) in
-    let more = either_false (b == 34) (b == 92) parts.0 in
+    let parts : ((b == 34 || b == 92) ≡ false) × ((b == 10) ≡ false) = or_none (b == 34 || b == 92) (b == 10) (not_true _ h) in
+    let more = or_none (b == 34) (b == 92) parts.0 in
     (more.0, parts.1, more.1)
 
 string_plain_exact : (b : ℕ) (bytes : List ℕ) (n : ℕ) → ((b == 34) ≡ false) × ((b == 10) ≡ false) × ((b == 92) ≡ false) → string_end bytes ≡ Some n → string_end (b ∷ bytes) ≡ Some (1 + n)

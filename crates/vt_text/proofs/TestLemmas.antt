@@ -1,26 +1,16 @@
 -- What tests that hold say of what they test.
-use Rattle.std.proofs.Common.{◌≡◌, ℕ, ◌≤◌, ◌==◌, ◌&&◌, ◌||◌, nat_eq, nat_le, Bool, true, false, not, List, [], ◌∷◌, refl, arith}
+use Rattle.std.proofs.Common.{◌≡◌, ℕ, ◌≤◌, ◌&&◌, ◌||◌, nat_eq, nat_le, Bool, true, false, List, [], ◌∷◌, refl, arith}
 use Rattle.std.specs.List.{list_all, list_any}
 use Rattle.std.specs.Cmp.Lexicographic.{pointwise}
 use Rattle.std.proofs.lemmas.Bool.Decides.{nat_tests}
+use Rattle.vt_facts.proofs.NumberLemmas.{equal_numbers}
 
 pub both_true : (a b : Bool) → (a && b) ≡ true → (a ≡ true) × (b ≡ true)
 both_true true b h = (refl, h)
 both_true false b h = cc
 
-pub either_false : (a b : Bool) → (a || b) ≡ false → (a ≡ false) × (b ≡ false)
-either_false true b h = cc
-either_false false b h = (refl, h)
-
-pub eq_is : (a b : ℕ) → (a == b) ≡ true → a ≡ b
-eq_is a b h = grind (arith, nat_tests)
-
 pub le_is : (a b : ℕ) → nat_le a b ≡ true → a ≤ b
 le_is a b h = grind (arith, nat_tests)
-
-pub and_false : (t : Bool) → (t && false) ≡ false
-and_false true = refl
-and_false false = refl
 
 pub found_item : {X : Type 0} (P test : X → Bool) (xs : List X) → list_all P xs ≡ true → list_any test xs ≡ true → (x : X) × (P x ≡ true) × (test x ≡ true)
 found_item P test [] h k = absurd (cc)
@@ -37,4 +27,4 @@ same_text [] (y ∷ ys) h = absurd (cc)
 same_text (x ∷ xs) [] h = absurd (cc)
 same_text (x ∷ xs) (y ∷ ys) h =
     let parts = both_true (nat_eq x y) (pointwise nat_eq xs ys) h in
-    cc (eq_is x y parts.0, same_text xs ys parts.1)
+    cc (equal_numbers x y parts.0, same_text xs ys parts.1)

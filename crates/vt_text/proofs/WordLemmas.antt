@@ -7,8 +7,9 @@ use Rattle.std.proofs.lemmas.Bool.Decides.{nat_tests}
 use Rattle.vt_text.specs.Lexicon.{begins_word, goes_on, NoneNext, Stands}
 use Rattle.vt_text.specs.Inside.Scan.{cut_word, cut_number, is_numeral, word_kind, piece_if}
 use Rattle.vt_text.specs.declared.token.TokenKind.TheVariants.{Word, Blank, Number}
-use Rattle.vt_text.proofs.TestLemmas.{both_true, eq_is, le_is}
+use Rattle.vt_text.proofs.TestLemmas.{both_true, le_is}
 use Rattle.vt_text.proofs.FrontLemmas.{prefix_run, Sound}
+use Rattle.vt_facts.proofs.NumberLemmas.{equal_numbers}
 
 -- Words.
 
@@ -20,8 +21,8 @@ word_stands b n front back h all stops long =
     elim (b == 95 && n == 0) as (λ t. (b == 95 && n == 0) ≡ t → Stands (Some (cond t Blank Word)) (b ∷ front) back) [
       | true ↦ λ e.
           let parts = both_true (b == 95) (n == 0) e in
-          let none : front ≡ [] = nil_from_length front (long ∙ eq_is n 0 parts.1) in
-          (cc (eq_is b 95 parts.0, none), stops)
+          let none : front ≡ [] = nil_from_length front (long ∙ equal_numbers n 0 parts.1) in
+          (cc (equal_numbers b 95 parts.0, none), stops)
       | false ↦ λ e.
           ((h, all, λ same. let first : b ≡ 95 = cc in let none : front ≡ [] = cc in let zero : n ≡ 0 = sym long ∙ ap length none in no_blank b n first zero e), stops)
     ] refl

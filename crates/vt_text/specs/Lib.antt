@@ -1,9 +1,9 @@
--- what the contracts say, in reading order
+-- words of public clauses; read them from the top
 pub mod Lexicon
 pub mod Spelling
 pub mod Spans
 pub mod Lexemes
 pub mod Operators
 pub mod Expression
--- what the functions inside the crate promise each other
+-- words of private clauses alone
 pub mod Inside

@@ -23,8 +23,9 @@ use Rattle.vt_vql.specs.Resolving.{type_of, param_of, declared, declared_from, w
 use Rattle.vt_vql.specs.declared.tree.ParamTree.{ParamTree}
 use Rattle.vt_vql.specs.declared.tree.ConstraintTree.{ConstraintTree}
 use Rattle.vt_vql.specs.declared.tree.ConstraintTree.TheVariants as tree
-use Rattle.vt_vql.proofs.MadeLemmas.{same_some, bind_some, map_some, position_within}
+use Rattle.vt_vql.proofs.MadeLemmas.{bind_some, map_some, position_within}
 use Rattle.vt_vql.proofs.ScopeLemmas.{term_grows, constraints_grow, number_below}
+use Rattle.std.proofs.lemmas.Option.{same_Some}
 
 -- ---- classes and features are there
 
@@ -40,8 +41,8 @@ IsThere meta (a_feature.Ref r) = r.0 < length meta.references
 either_there : (meta : Metamodel) (attribute reference : Option ℕ) (f : Feature)
     → ((n : ℕ) → attribute ≡ Some n → n < length meta.attributes) → ((n : ℕ) → reference ≡ Some n → n < length meta.references)
     → or_reference attribute reference ≡ Some f → IsThere meta f
-either_there meta (Some a) reference f h k e = subst (IsThere meta) (same_some _ f e) (h a refl)
-either_there meta None (Some r) f h k e = subst (IsThere meta) (same_some _ f e) (k r refl)
+either_there meta (Some a) reference f h k e = subst (IsThere meta) (same_Some _ f e) (h a refl)
+either_there meta None (Some r) f h k e = subst (IsThere meta) (same_Some _ f e) (k r refl)
 either_there meta None None f h k e = absurd (let n : None ≡ Some f = e in cc)
 
 feature_there : (meta : Metamodel) (c : ClassId) (name : List ℕ) (f : Feature) → feature meta c name ≡ Some f → IsThere meta f
@@ -62,23 +63,23 @@ module _ (meta : Metamodel) (vars : ℕ) where
   constraint_narrow scope (tree.Type name t) c e room =
       let class = bind_some (class_named meta name) (λ k. Some (Is (Class k) (Var (number_of scope t)))) c e in
       let number : number_of scope t < vars = omega (arith, number_below scope t) in
-      subst (IsNarrowConstraint (counts_of meta) vars) (same_some _ c class.2) (class_there meta name class.0 class.1, number)
+      subst (IsNarrowConstraint (counts_of meta) vars) (same_Some _ c class.2) (class_there meta name class.0 class.1, number)
   constraint_narrow scope (tree.Feature name feature_name from to) c e room =
       let class = bind_some (class_named meta name) (λ k. feature meta k feature_name >>= λ f. Some (with_feature k f (Var (number_of scope from)) (Var (number_of (with_term scope from) to)))) c e in
       let known = bind_some (feature meta class.0 feature_name) (λ f. Some (with_feature class.0 f (Var (number_of scope from)) (Var (number_of (with_term scope from) to)))) c class.2 in
       let first : number_of scope from < vars = omega (arith, number_below scope from, term_grows (with_term scope from) to) in
       let second : number_of (with_term scope from) to < vars = omega (arith, number_below (with_term scope from) to) in
-      subst (IsNarrowConstraint (counts_of meta) vars) (same_some _ c known.2)
+      subst (IsNarrowConstraint (counts_of meta) vars) (same_Some _ c known.2)
       (feature_narrow class.0 known.0 _ _ (class_there meta name class.0 class.1) (feature_there meta class.0 feature_name known.0 known.1) first second)
 
   pub constraints_narrow : (scope : Scope) (ts : List ConstraintTree) (cs : List Constraint) → constraints_from meta scope ts ≡ Some cs
       → length (with_constraints scope ts) ≤ vars → AllByRecursion (IsNarrowConstraint (counts_of meta) vars) cs
-  constraints_narrow scope [] cs e room = subst (AllByRecursion (IsNarrowConstraint (counts_of meta) vars)) (same_some [] cs e) tt
+  constraints_narrow scope [] cs e room = subst (AllByRecursion (IsNarrowConstraint (counts_of meta) vars)) (same_Some [] cs e) tt
   constraints_narrow scope (t ∷ ts) cs e room =
       let head = bind_some (constraint_of meta scope t) (λ c. constraints_from meta (with_constraint scope t) ts >>= λ rest. Some (c ∷ rest)) cs e in
       let tail = bind_some (constraints_from meta (with_constraint scope t) ts) (λ rest. Some (head.0 ∷ rest)) cs head.2 in
       let within : length (with_constraint scope t) ≤ vars = omega (arith, room, constraints_grow (with_constraint scope t) ts) in
-      subst (AllByRecursion (IsNarrowConstraint (counts_of meta) vars)) (same_some _ cs tail.2)
+      subst (AllByRecursion (IsNarrowConstraint (counts_of meta) vars)) (same_Some _ cs tail.2)
       (constraint_narrow scope t head.0 head.1 within, constraints_narrow (with_constraint scope t) ts tail.0 tail.1 room)
 
   -- ---- declared types
@@ -90,7 +91,7 @@ module _ (meta : Metamodel) (vars : ℕ) where
   IsKnown (Some (ty.Kind k)) = ⊥
 
   type_known : (name : Option (List ℕ)) (t : Option Ty) → type_of meta name ≡ Some t → IsKnown t
-  type_known None t e = subst IsKnown (same_some None t e) tt
+  type_known None t e = subst IsKnown (same_Some None t e) tt
   type_known (Some name) t e =
       let w = map_some (λ c. Some (Class c)) (class_named meta name) t e in
       subst IsKnown w.2 (class_there meta name w.0 w.1)

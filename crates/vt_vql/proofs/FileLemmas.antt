@@ -20,6 +20,7 @@ use Rattle.vt_vql.specs.declared.fault.Stuck.{Stuck}
 use Rattle.vt_vql.specs.declared.fault.Stuck.TheVariants.{NotNarrow}
 use Rattle.vt_vql.specs.declared.fault.QueryFault.{QueryFault}
 use Rattle.vt_vql.specs.declared.fault.QueryFault.TheVariants.{NotText, BadToken, NotBuilt, NoMemory}
+use Rattle.std.proofs.lemmas.Option.{same_Some}
 
 -- ---- bytes
 
@@ -77,9 +78,6 @@ OneLine = (text : List ℕ) (line other : ℕ) → IsBadAt text line → IsBadAt
 abbrev pub NotBoth : Type 0
 NotBoth = (text : List ℕ) (tokens : List Token) (line : ℕ) → token.Spells text tokens → IsBadAt text line → ⊥
 
-some_same : {A : Type 0} (x y : A) → Some x ≡ Some y → x ≡ y
-some_same x y e = cc
-
 not_none : {A : Type 0} (x : A) → Some x ≡ None → ⊥
 not_none x e = cc
 
@@ -93,7 +91,7 @@ pub same_program : OneList → OneTree → (meta : Metamodel) (bytes : List ℕ)
     → Accepts meta bytes program → Accepts meta bytes other → program ≡ other
 same_program one_list one_tree meta bytes program other a b =
     let same : a.tree ≡ b.tree = one_tree (lexemes_of bytes a.tokens) a.tree b.tree a.spelled (respelled one_list bytes a.tokens b.tokens b.tree a.cut b.cut b.spelled) in
-    some_same program other (sym a.makes ∙ ap (narrow_program meta) same ∙ b.makes)
+    same_Some program other (sym a.makes ∙ ap (narrow_program meta) same ∙ b.makes)
 
 pub no_fault : OneList → NotBoth → (meta : Metamodel) (bytes : List ℕ) (program : Program) (fault : QueryFault)
     → Accepts meta bytes program → fault ≢ NoMemory → IsFaultOf meta bytes fault → ⊥

@@ -5,6 +5,7 @@ use Rattle.std.specs.List.{AllByRecursion, position_or_len}
 use Rattle.std.proofs.lemmas.Bool.{ltb-true, false≢true}
 use Rattle.vt_facts.specs.Parts.{◌>>=◌}
 use Rattle.vt_vql.specs.Resolving.{all_of}
+use Rattle.std.proofs.lemmas.Option.{same_Some}
 
 -- ---- tests
 
@@ -23,9 +24,6 @@ one_of_two false b e = inr e
 
 -- ---- options
 
-pub same_some : {A : Type 0} (x y : A) → Some x ≡ Some y → x ≡ y
-same_some x y e = cc
-
 not_some : {A : Type 0} (y : A) → None ≡ Some y → ⊥
 not_some y e = cc
 
@@ -43,12 +41,12 @@ then_some f (Some x) y e = (x, refl, e)
 
 pub map_some : {A B : Type 0} (f : A → B) (o : Option A) (y : B) → option_map f o ≡ Some y → (x : A) × (o ≡ Some x) × (f x ≡ y)
 map_some f None y e = absurd (not_some y e)
-map_some f (Some x) y e = (x, refl, same_some (f x) y e)
+map_some f (Some x) y e = (x, refl, same_Some (f x) y e)
 
 -- ---- places
 
 below_count : (m count n : ℕ) (below : Bool) → ltb m count ≡ below → (if below then Some m else None) ≡ Some n → n < count
-below_count m count n true l e = subst (λ k. k < count) (same_some m n e) (ltb-true m count l)
+below_count m count n true l e = subst (λ k. k < count) (same_Some m n e) (ltb-true m count l)
 below_count m count n false l e = absurd (not_some n e)
 
 -- a place is in the list
@@ -64,18 +62,18 @@ module _ {A B : Type 0} (f : A → Option B) where
   parts x xs ys e =
       let head = bind_some (f x) (λ y. all_of f xs >>= λ rest. Some (y ∷ rest)) ys e in
       let tail = bind_some (all_of f xs) (λ rest. Some (head.0 ∷ rest)) ys head.2 in
-      (head.0, tail.0, head.1, tail.1, same_some (head.0 ∷ tail.0) ys tail.2)
+      (head.0, tail.0, head.1, tail.1, same_Some (head.0 ∷ tail.0) ys tail.2)
 
   -- what holds of each that is made
   pub made_each : (P : B → Type 0) → ((x : A) (y : B) → f x ≡ Some y → P y) → (xs : List A) (ys : List B) → all_of f xs ≡ Some ys → AllByRecursion P ys
-  made_each P h [] ys e = subst (AllByRecursion P) (same_some [] ys e) tt
+  made_each P h [] ys e = subst (AllByRecursion P) (same_Some [] ys e) tt
   made_each P h (x ∷ xs) ys e =
       let w = parts x xs ys e in
       subst (AllByRecursion P) w.4 (h x w.0 w.2, made_each P h xs w.1 w.3)
 
   -- what is kept of each
   pub made_keeps : {C : Type 0} (g : B → C) (k : A → C) → ((x : A) (y : B) → f x ≡ Some y → g y ≡ k x) → (xs : List A) (ys : List B) → all_of f xs ≡ Some ys → map g ys ≡ map k xs
-  made_keeps g k h [] ys e = ap (map g) (sym (same_some [] ys e))
+  made_keeps g k h [] ys e = ap (map g) (sym (same_Some [] ys e))
   made_keeps g k h (x ∷ xs) ys e =
       let w = parts x xs ys e in
       let one : g w.0 ≡ k x = h x w.0 w.2 in

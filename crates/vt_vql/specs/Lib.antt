@@ -1,7 +1,7 @@
--- what the contracts say, in reading order
+-- words of public clauses; read them from the top
 pub mod Rules
 pub mod Scope
 pub mod Resolving
 pub mod Queries
--- what the functions inside the crate promise each other
+-- words of private clauses alone
 pub mod Inside

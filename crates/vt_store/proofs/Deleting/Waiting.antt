@@ -1,6 +1,6 @@
 -- What is known of objects that were buried one after another, and of those that wait.
-use Rattle.std.proofs.Common.{◌≡◌, ℕ, ◌+◌, ◌<◌, List, [], ◌∷◌, ◌++◌, map, take, get_or, refl, sym, ap, subst, ◌∙◌, ◌⊎◌, inl, inr, arith, Bool, true, false, length, cond}
-use Rattle.std.specs.Prelude.{◌≢◌, ◌≤◌, ◌==◌, All, Contains, find, filter, fold, not, Option, Some, None, option_map, unwrap_or}
+use Rattle.std.proofs.Common.{◌≡◌, ℕ, ◌+◌, ◌<◌, List, [], ◌∷◌, ◌++◌, map, take, get_or, refl, sym, ap, subst, ◌∙◌, inl, inr, arith, Bool, true, false, length, cond}
+use Rattle.std.specs.Prelude.{◌≢◌, ◌≤◌, ◌==◌, Contains, find, filter, fold, not, Option, Some, option_map, unwrap_or}
 use Rattle.std.specs.List.Sorted.{IsStrictlySortedBy}
 use Rattle.std.proofs.lemmas.Bool.{cases_eq, eqb-true, eq-eqb, ne_eqb, not_from_false}
 use Rattle.std.proofs.lemmas.List.{take_more}
@@ -21,11 +21,11 @@ use Rattle.vt_slots.specs.declared.slot.Side.TheVariants.{Outgoing, Incoming}
 use Rattle.vt_graph.specs.Held.{Held, Place, Buried}
 use Rattle.vt_graph.specs.Room.{KeepsRoom, class_kept, place_at, ends_of, capacity_at, capacity_in}
 use Rattle.vt_graph.specs.Passing.{HasNoLinks, HasNoValues, with_buried}
-use Rattle.vt_store.specs.Inside.Kept.{objects_of, waiting_place, AreOf}
+use Rattle.vt_store.specs.Inside.Kept.{objects_of, waiting_place}
 use Rattle.vt_store.specs.Inside.Levels.{numbers, object_at, without_object, buried, IsBare}
 use Rattle.vt_store.specs.Inside.Waiting.{Buries, AddsBuried, BuriesAll, HasClasses}
-use Rattle.vt_store.proofs.Linking.Anew.{KeepsRoom-then}
 use Rattle.vt_store.proofs.Deleting.Buried.{object_at-live, other_number}
+use Rattle.std.proofs.lemmas.Option.{same_Some}
 
 -- ---- one after another
 
@@ -73,9 +73,6 @@ buries_of old (x ∷ xs) [] new steps b there = absurd steps
 lived_number : (g : Model) (x : ObjId) (y : Object) → object_at g x ≡ Some y → y.number ≡ x
 lived_number g x y at = same_object y.number x (eqb-true y.number.0 x.0 (Contains-find (λ z. z.number.0 == x.0) g.live y at).1)
 
-same_some : {X : Type 0} (x y : X) → Some x ≡ Some y → x ≡ y
-same_some {X} x y e = ap (λ (r : Option X). unwrap_or r x) e
-
 -- objects that are buried by their numbers are those that wait
 pub buries_objects : (old : Held) (ys : List Object) (bs : List Buried) (new : Held) → BuriesAll old (numbers ys) bs new
     → IsStrictlySortedBy object_order old.model.live → IsStrictlySortedBy object_order ys → ((y : Object) → Contains ys y → Contains old.model.live y) → objects_of bs ≡ ys
@@ -90,7 +87,7 @@ buries_objects old (y ∷ ys) (b ∷ bs) new steps rise sorted live =
     found = object_at-live old.model rise y (live y (Contains-head y ys))
 
     first : b.object ≡ y
-    first = same_some b.object y (sym steps.1.lived ∙ found)
+    first = same_Some b.object y (sym steps.1.lived ∙ found)
 
     stays : Object → Bool
     stays z = not (z.number.0 == y.number.0)
@@ -124,7 +121,7 @@ class_stays : (old new : Held) (x : ObjId) (b : Buried) → Buries old x b new �
 class_stays old new x b step p c kept = elim (cases_eq p.0 x.0) [
   | inl is ↦
       let same : p ≡ x = same_object p x is in
-      let class : b.object.class ≡ c = same_some b.object.class c (sym step.was ∙ ap (class_kept old.places) (sym same) ∙ kept) in
+      let class : b.object.class ≡ c = same_Some b.object.class c (sym step.was ∙ ap (class_kept old.places) (sym same) ∙ kept) in
       ap (class_kept new.places) same ∙ step.class ∙ ap Some class
   | inr apart ↦ step.room.classes p c apart kept
 ]
