@@ -1,6 +1,6 @@
 //! The words that every other crate speaks: texts, lists, values, rows, and how a value is printed.
 //!
-//! It stands on `vt_shared`, `vt_facts` and `vt_sorted`, keeps short tuples by `smallvec`, and prints by `serde_json` and `itoa`. Read
+//! It stands on `vt_shared` and `vt_facts`, keeps short tuples by `smallvec`, and prints by `serde_json` and `itoa`. Read
 //! `specs/Order.antt`, `specs/Rows.antt`, `specs/Aggregate.antt`, `specs/Base.antt`, `specs/Names.antt`, then
 //! `specs/Written.antt`.
 #![tactic(auto)]
@@ -31,7 +31,7 @@ mod writing;
 mod steps;
 
 // Memory: what wanting it answers, and what can be copied.
-pub use vt_sorted::{NoMemory, Plain};
+pub use vt_facts::{NoMemory, Plain};
 // Texts and lists.
 pub use list::List;
 pub use roomy::Roomy;

@@ -15,8 +15,8 @@ pub struct Roomy<T> {
 
 impl<T> Model for Roomy<T> {
     ghost use Rattle.std.specs.Prelude.{◌-◌, vec_len, vec_capacity};
-    ghost use Rattle.vt_sorted.specs.Room.{Room};
-    ghost use Rattle.vt_sorted.specs.Inside.Coding.{room_code};
+    ghost use Rattle.vt_facts.specs.Room.{Room};
+    ghost use Rattle.vt_facts.specs.Inside.Coding.{room_code};
 
     ghost Value = { Room T };
 

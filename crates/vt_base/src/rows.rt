@@ -18,7 +18,7 @@ pub struct Rows {
 
 impl Model for Rows {
     ghost use Rattle.std.specs.Prelude.{◌-◌, List, vec_len, vec_capacity};
-    ghost use Rattle.vt_sorted.specs.Room.{Room};
+    ghost use Rattle.vt_facts.specs.Room.{Room};
     ghost use Rattle.vt_base.specs.Rows.{Ascends};
     ghost use Rattle.vt_base.specs.declared.value.Value.{Value as Item};
 

@@ -3,3 +3,6 @@ pub mod Names
 pub mod Parts
 pub mod Firsts
 pub mod Lines
+pub mod Room
+-- words of private clauses alone
+pub mod Inside

@@ -1,5 +1,4 @@
 -- No public clause cites a module below.
-pub mod Coding
 pub mod Places
 pub mod Pieces
 pub mod Held

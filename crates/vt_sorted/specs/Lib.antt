@@ -1,5 +1,4 @@
 -- words of public clauses; read them from the top
-pub mod Room
 pub mod Ascending
 -- words of private clauses alone
 pub mod Inside

@@ -26,8 +26,8 @@ pub struct Large<T: Ord> {
 
 impl<T: Ord> Model for Large<T> {
     ghost use Rattle.std.specs.Prelude.{vec_len, vec_capacity, min, ◌-◌, ◌^◌};
-    ghost use Rattle.vt_sorted.specs.Room.{Room};
-    ghost use Rattle.vt_sorted.specs.Inside.Coding.{room_code};
+    ghost use Rattle.vt_facts.specs.Room.{Room};
+    ghost use Rattle.vt_facts.specs.Inside.Coding.{room_code};
     ghost use Rattle.vt_sorted.specs.Inside.Pieces.{joined, room, IsLarge};
 
     ghost Value = { Room T };

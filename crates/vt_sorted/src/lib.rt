@@ -1,11 +1,8 @@
 //! An ordered set with room: it takes so many items with no memory, and without fail.
 //!
-//! It stands on no other crate. Read `specs/Room.antt`, then `specs/Ascending.antt`.
+//! It stands on `vt_facts`. Read `specs/Room.antt` there, then `specs/Ascending.antt`.
 #![tactic(auto)]
 
-// Memory: what wanting it answers, and what can be copied.
-mod memory;
-mod plain;
 // A block of items, and many of them.
 mod chunk;
 mod large;
@@ -15,8 +12,7 @@ mod walk;
 mod sorted;
 
 // Memory: what wanting it answers, and what can be copied.
-pub use memory::NoMemory;
-pub use plain::Plain;
+pub use vt_facts::{NoMemory, Plain};
 // A block of items, and many of them.
 pub use large::Large;
 pub use walk::Walk;

@@ -26,8 +26,8 @@ enum Form<T: Ord> {
 }
 
 impl<T: Ord> Model for Sorted<T> {
-    ghost use Rattle.vt_sorted.specs.Room.{Room};
-    ghost use Rattle.vt_sorted.specs.Inside.Coding.{room_code};
+    ghost use Rattle.vt_facts.specs.Room.{Room};
+    ghost use Rattle.vt_facts.specs.Inside.Coding.{room_code};
     ghost use Rattle.vt_sorted.specs.Inside.Seen.{seen, IsSound};
 
     ghost Value = { Room T };

@@ -2,7 +2,7 @@
 use Rattle.std.specs.Prelude.{◌≡◌, ◌-◌, ◌≤◌, min, vec_len, vec_capacity}
 use Rattle.std.specs.declared.cmp.Ordering.{Ordering}
 use Rattle.std.specs.List.Sorted.{IsStrictlySortedBy}
-use Rattle.vt_sorted.specs.Room.{Room}
+use Rattle.vt_facts.specs.Room.{Room}
 use Rattle.vt_sorted.specs.Inside.Held.{only}
 use Rattle.vt_sorted.specs.declared.sorted.Form.{Form}
 use Rattle.vt_sorted.specs.declared.sorted.Form.TheVariants.{Few, Many}

@@ -1,7 +1,7 @@
 -- How a record of items and room is stored: as the pair of its fields.
 use Rattle.std.specs.Prelude.{ℕ, List, refl}
 use Rattle.std.specs.Coded.{Coded, code_by, coded×, coded_ℕ, coded_list}
-use Rattle.vt_sorted.specs.Room.{Room}
+use Rattle.vt_facts.specs.Room.{Room}
 
 abbrev pub room_code : {T : Type 0} → Coded T → Coded (Room T)
 room_code {T} code =
