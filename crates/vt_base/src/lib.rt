@@ -1,8 +1,9 @@
 //! The words that every other crate speaks: texts, lists, values, rows, and how a value is printed.
 //!
-//! It stands on `vt_shared` and `vt_facts`, keeps short tuples by `smallvec`, and prints by `serde_json` and `itoa`. Read
-//! `specs/Order.antt`, `specs/Rows.antt`, `specs/Aggregate.antt`, `specs/Base.antt`, `specs/Names.antt`, then
-//! `specs/Written.antt`.
+//! It stands on `vt_shared` and `vt_facts`, keeps short tuples by `smallvec`, and prints by
+//! `serde_json` and `itoa`. Read `vt_facts/specs/Room.antt`, `specs/Order.antt`, `specs/Rows.antt`,
+//! `specs/Aggregate.antt`, `specs/Base.antt`, `specs/Deltas.antt`, `specs/Names.antt`, then
+//! `specs/Written.antt`: these are trusted.
 #![tactic(auto)]
 
 // Memory: what wanting it answers, and what can be copied.

@@ -1,22 +1,22 @@
 // What no clause says: that a call succeeds, and that the clauses mean what one expects of a text,
-// a list, a copy and a printed value.
-ghost use Rattle.std.specs.Prelude.{◌≡◌, ◌+◌, ◌^◌, ◌-◌, [], ◌∷◌, Some, None, IfOk, pos, negsuc};
-ghost use Rattle.vt_base.specs.Names.{IsNamed, AreNamed};
+// a list, a set of rows and a copy.
+ghost use Rattle.std.specs.Prelude.{◌≡◌, ◌+◌, ◌^◌, ◌-◌, [], ◌∷◌, Some, None, pos, negsuc};
 ghost use Rattle.vt_base.specs.Aggregate.{aggregate_of};
 ghost use Rattle.vt_base.specs.declared.aggregate.AggKind.TheVariants.{Sum, Min, Max};
 ghost use Rattle.vt_base.specs.declared.value.Value.TheVariants as value;
 
 use crate::{
-    AggKind, AttrId, ClassId, Kind, List, Names, NoMemory, ObjId, PatternId, Plain, RefId, Roomy,
-    Rows, RuleId, Steps, Text, Tuple, Value, write_tuple, write_value,
+    AggKind, AttrId, ClassId, Kind, List, NoMemory, ObjId, PatternId, Plain, Policy, RefId, Roomy,
+    Rows, RuleId, State, Steps, Text, Tuple, Value,
 };
 use std::alloc::Global;
-use std::cmp::Ordering;
 use std::fmt::Debug;
 use std::marker::Brand;
 use std::process::Abort;
 use std::sync::ledger::{Blank, Ledger};
 use std::test::Fail;
+
+mod printing;
 
 #[test]
 fn texts_are_compared_by_their_bytes(rt: HostRuntime) -> Result<(), Fail> {
@@ -118,17 +118,14 @@ fn rising_values(alloc: Global) -> Result<List<Value>, NoMemory> {
     Ok(values)
 }
 
-#[test]
-fn values_are_ordered_by_kind_and_then_by_size(rt: HostRuntime) -> Result<(), Fail> {
-    let values = rising_values(rt.alloc())?;
-    let copies = values.copy(rt.alloc())?;
-    for (i, a) in values.as_slice().iter().enumerate() {
-        for (j, b) in copies.as_slice().iter().enumerate() {
-            assert_eq!(rt; a.cmp(b), i.cmp(&j), "values {i} and {j}");
+// Each item is below those that follow it, and equal to itself alone.
+fn assert_ascending<T: Ord + Debug>(rt: &impl Abort, items: &[T]) {
+    for (i, a) in items.iter().enumerate() {
+        for (j, b) in items.iter().enumerate() {
+            assert_eq!(rt; a.cmp(b), i.cmp(&j), "items {i} and {j}");
+            assert_eq!(rt; a == b, i == j, "items {i} and {j}");
         }
     }
-    assert_eq!(rt; copies.as_slice(), values.as_slice());
-    Ok(())
 }
 
 // A tuple of whole numbers.
@@ -150,30 +147,13 @@ fn ascending_tuples(alloc: Global) -> Result<List<Tuple>, NoMemory> {
     Ok(tuples)
 }
 
-fn assert_compared(rt: &impl Abort, t: &Tuple, other: &Tuple, wanted: Ordering) {
-    assert_eq!(rt; t.cmp(other), wanted);
-    assert_eq!(rt; t == other, wanted.is_eq());
-}
-
 #[test]
-fn tuples_are_ordered_value_by_value(rt: HostRuntime) -> Result<(), Fail> {
+fn values_and_tuples_are_ordered(rt: HostRuntime) -> Result<(), Fail> {
+    let values = rising_values(rt.alloc())?;
+    assert_ascending(&rt, values.as_slice());
+    assert_eq!(rt; values.copy(rt.alloc())?.as_slice(), values.as_slice());
     let tuples = ascending_tuples(rt.alloc())?;
-    for (i, t) in tuples.as_slice().iter().enumerate() {
-        for (j, other) in tuples.as_slice().iter().enumerate() {
-            assert_compared(&rt, t, other, i.cmp(&j));
-        }
-    }
-    Ok(())
-}
-
-#[test]
-fn a_tuple_has_the_values_that_it_is_made_of(rt: HostRuntime) -> Result<(), Fail> {
-    let t = numbers(rt.alloc(), &[3, 4])?.copy(rt.alloc())?;
-    assert_eq!(rt; t.as_slice(), [Value::Int(3), Value::Int(4)].as_slice());
-    assert_eq!(rt; t.get(1), Some(&Value::Int(4)));
-    assert_eq!(rt; t.get(2), None);
-    assert_eq!(rt; t.len(), 2);
-    assert!(rt; !t.is_empty());
+    assert_ascending(&rt, tuples.as_slice());
     Ok(())
 }
 
@@ -191,27 +171,27 @@ fn rows_of(alloc: Global, tuples: &[Tuple]) -> Result<Rows, NoMemory> {
 #[test]
 fn rows_ascend_and_none_comes_twice(rt: HostRuntime) -> Result<(), Fail> {
     let tuples = ascending_tuples(rt.alloc())?;
-    let rows = rows_of(rt.alloc(), tuples.as_slice())?;
+    let rows = rows_of(rt.alloc(), tuples.as_slice())?.copy(rt.alloc())?;
     assert_eq!(rt; rows.as_slice(), tuples.as_slice());
     assert_eq!(rt; rows.get(6), tuples.get(6));
     assert_eq!(rt; rows.get(7), None);
     assert_eq!(rt; rows.len(), 7);
-    assert!(rt; !rows.is_empty());
-    assert!(rt; Rows::new(rt.alloc()).is_empty());
-    Ok(())
-}
-
-#[test]
-fn rows_contain_what_they_were_made_of_alone(rt: HostRuntime) -> Result<(), Fail> {
-    let tuples = ascending_tuples(rt.alloc())?;
-    let rows = rows_of(rt.alloc(), tuples.as_slice())?;
-    for t in tuples.as_slice() {
-        assert!(rt; rows.contains(t));
+    assert!(rt; !rows.is_empty() && Rows::new(rt.alloc()).is_empty());
+    let asked: [(&[i64], bool); 5] = [
+        (&[], true),
+        (&[10, 2], true),
+        (&[10], false),
+        (&[0, 2], false),
+        (&[11], false),
+    ];
+    for (values, stands) in asked {
+        assert_eq!(rt; rows.contains(&numbers(rt.alloc(), values)?), stands);
     }
-    let others: [&[i64]; 5] = [&[-1], &[0, 2], &[1, 0], &[10], &[11]];
-    for other in others {
-        assert!(rt; !rows.contains(&numbers(rt.alloc(), other)?));
-    }
+    let long = numbers(rt.alloc(), &[3, 4, 5, 6, 7])?.copy(rt.alloc())?;
+    assert_eq!(rt; long.get(4), Some(&Value::Int(7)));
+    assert_eq!(rt; long.get(5), None);
+    assert_eq!(rt; long.len(), 5);
+    assert!(rt; !long.is_empty());
     Ok(())
 }
 
@@ -270,7 +250,8 @@ fn a_copy_equals_its_source(rt: HostRuntime) -> Result<(), Fail> {
     assert_copied(&rt, alloc, (AttrId(3), RefId(4)))?;
     assert_copied(&rt, alloc, (PatternId(5), RuleId(6)))?;
     assert_copied(&rt, alloc, (Some(Kind::Enum(7)), None::<Kind>))?;
-    assert_copied(&rt, alloc, AggKind::Max)?;
+    assert_copied(&rt, alloc, (AggKind::Max, State::Deleted))?;
+    assert_copied(&rt, alloc, Policy::Turns)?;
     let copies = two_files(alloc)?.copy(alloc)?;
     assert_eq!(rt; copies.len(), 2);
     let wanted = [("a.json", b"{}".as_slice()), ("é", b"".as_slice())];
@@ -278,157 +259,6 @@ fn a_copy_equals_its_source(rt: HostRuntime) -> Result<(), Fail> {
         assert_eq!(rt; file.0.as_str(), name);
         assert_eq!(rt; file.1.as_slice(), bytes);
     }
-    Ok(())
-}
-
-// An enum with two literals, and an object.
-#[derive(Drop)]
-struct Small {
-    size: Text,
-    small: Text,
-    large: Text,
-    number: ObjId,
-    object: Text,
-}
-
-impl Names for Small {
-    ghost enums = { λ s. record { name = s.size; literals = s.small ∷ s.large ∷ [] } ∷ [] };
-
-    ghost objects = { λ s. record { object = s.number; name = s.object } ∷ [] };
-
-    fn literal_named(&self, enum_name: &str, literal: &str) -> Option<(u16, u16)> {
-        if enum_name != self.size.as_str() {
-            None
-        } else if literal == self.small.as_str() {
-            Some((0, 0))
-        } else if literal == self.large.as_str() {
-            Some((0, 1))
-        } else {
-            None
-        }
-    }
-
-    fn literal_text(&self, e: u16, l: u16) -> Option<(&Text, &Text)> {
-        match (e, l) {
-            (0, 0) => Some((&self.size, &self.small)),
-            (0, 1) => Some((&self.size, &self.large)),
-            _ => None,
-        }
-    }
-
-    fn object_text(&self, o: ObjId) -> Option<&Text> {
-        if self.number.0 == o.0 {
-            Some(&self.object)
-        } else {
-            None
-        }
-    }
-}
-
-fn two_names(alloc: Global) -> Result<Small, NoMemory>
-    ensures { IfOk result (λ names. names.number.0 ≡ 7) }
-{
-    Ok(Small {
-        size: Text::new(alloc, "Size")?,
-        small: Text::new(alloc, "SMALL")?,
-        large: Text::new(alloc, "LARGE")?,
-        number: ObjId(7),
-        object: Text::new(alloc, "room.1")?,
-    })
-}
-
-// Writes a value after a mark.
-fn assert_printed<N: Names>(
-    rt: &impl Abort,
-    alloc: Global,
-    names: &N,
-    value: Value,
-    text: &[u8],
-) -> Result<(), NoMemory>
-    requires { IsNamed (N.enums names.now) (N.objects names.now) value }
-{
-    let mut out = List::new(alloc);
-    out.extend(b"> ")?;
-    write_value(alloc, &value, names, &mut out)?;
-    assert_eq!(rt; out.as_slice(), text);
-    Ok(())
-}
-
-#[test]
-fn a_value_prints_as_its_text(rt: HostRuntime) -> Result<(), Fail> {
-    let alloc = rt.alloc();
-    let names = two_names(alloc)?;
-    for (value, text) in [(true, b"> true".as_slice()), (false, b"> false".as_slice())] {
-        assert_printed(&rt, alloc, &names, Value::Bool(value), text)?;
-    }
-    let numbers = [
-        (0, b"> 0".as_slice()),
-        (-1, b"> -1".as_slice()),
-        (i64::MAX, b"> 9223372036854775807".as_slice()),
-        (i64::MIN, b"> -9223372036854775808".as_slice()),
-    ];
-    for (value, text) in numbers {
-        assert_printed(&rt, alloc, &names, Value::Int(value), text)?;
-    }
-    assert_printed(&rt, alloc, &names, Value::Enum(0, 0), b"> Size::SMALL")?;
-    assert_printed(&rt, alloc, &names, Value::Enum(0, 1), b"> Size::LARGE")?;
-    assert_printed(&rt, alloc, &names, Value::Obj(ObjId(7)), b"> room.1")?;
-    Ok(())
-}
-
-#[test]
-fn a_text_prints_as_json_writes_a_string(rt: HostRuntime) -> Result<(), Fail> {
-    let names = two_names(rt.alloc())?;
-    let texts = [
-        ("", r#"> """#),
-        ("two words", r#"> "two words""#),
-        // these are escaped
-        ("\"\\", r#"> "\"\\""#),
-        ("\u{8}\u{c}\n\r\t", r#"> "\b\f\n\r\t""#),
-        ("\u{0}\u{1}\u{b}\u{1f}", r#"> "\u0000\u0001\u000b\u001f""#),
-        // and these are not
-        ("/ \u{7f} é \u{1f600}", "> \"/ \u{7f} é \u{1f600}\""),
-    ];
-    for (value, text) in texts {
-        let value = Value::Text(Text::new(rt.alloc(), value)?);
-        assert_printed(&rt, rt.alloc(), &names, value, text.as_bytes())?;
-    }
-    Ok(())
-}
-
-// Writes a tuple after a mark.
-fn assert_tuple_printed<N: Names>(
-    rt: &impl Abort,
-    alloc: Global,
-    names: &N,
-    values: &[Value],
-    text: &[u8],
-) -> Result<(), NoMemory>
-    requires { AreNamed (N.enums names.now) (N.objects names.now) values.now }
-{
-    let mut out = List::new(alloc);
-    out.extend(b"> ")?;
-    let t = Tuple::from_slice(alloc, values)?;
-    write_tuple(alloc, &t, names, &mut out)?;
-    assert_eq!(rt; out.as_slice(), text);
-    Ok(())
-}
-
-#[test]
-fn a_tuple_prints_its_values_in_brackets(rt: HostRuntime) -> Result<(), Fail> {
-    let alloc = rt.alloc();
-    let names = two_names(alloc)?;
-    assert_tuple_printed(&rt, alloc, &names, &[], b"> ()")?;
-    assert_tuple_printed(&rt, alloc, &names, &[Value::Int(-1)], b"> (-1)")?;
-    let text = Value::Text(Text::new(alloc, "a, b")?);
-    let values = [
-        Value::Bool(true),
-        text,
-        Value::Enum(0, 1),
-        Value::Obj(ObjId(7)),
-    ];
-    let printed = b"> (true, \"a, b\", Size::LARGE, room.1)";
-    assert_tuple_printed(&rt, alloc, &names, &values, printed)?;
     Ok(())
 }
 
