@@ -109,7 +109,6 @@ module _ (words : List (List ℕ)) (told : Option NamedFiles) (before now : ℕ)
     (puts_before puts_now : ℕ) (old new : Option (List ℕ))
     (prepared : Prepares (command_of words) told before now failed outcome)
     (delivered : Delivers outcome ending puts_before puts_now old new) where
-
   unread_ending : (u : AreUnread (files_of (command_of words)) told before now failed outcome) → outcome.ending ≡ ReadFault u.role
   unread_ending u = ap (λ (o : Outcome). o.ending) u.tells
 
@@ -160,9 +159,9 @@ module _ (words : List (List ℕ)) (told : Option NamedFiles) (before now : ℕ)
     | inl whole ↦ elim prepared [
       | inl planned ↦ absurd (suits-no_read_fault (command_of words) file (subst (Suits (command_of words)) (sym whole.0 ∙ is) planned.suits))
       | inr u ↦
-        let same = same_file u.role file (sym (unread_ending u) ∙ sym whole.0 ∙ is) in
-        subst (λ (role : Role). IsUnread words told role before now failed old new) same
-        (record { fails = u.fails; line = subst (λ (o : Outcome). Appends old new o.text) u.tells whole.1 })
+          let same = same_file u.role file (sym (unread_ending u) ∙ sym whole.0 ∙ is) in
+          subst (λ (role : Role). IsUnread words told role before now failed old new) same
+          (record { fails = u.fails; line = subst (λ (o : Outcome). Appends old new o.text) u.tells whole.1 })
     ]
     | inr cut ↦ absurd (subst (λ (e : Ending). IsCutShort e puts_before puts_now) is cut.0)
   ]
