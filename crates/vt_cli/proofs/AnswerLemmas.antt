@@ -1,11 +1,11 @@
 -- What an outcome that is prepared and delivered says of the ending and of what was written.
-use Rattle.std.proofs.Common.{ℕ, ◌≡◌, ◌⊎◌, List, [], ◌∷◌, ◌++◌, Option, Some, None, sym, ap, ◌∙◌, subst, refl, inl, inr}
+use Rattle.std.proofs.Common.{ℕ, ◌≡◌, List, [], ◌∷◌, ◌++◌, Option, Some, None, sym, ap, ◌∙◌, subst, refl, inl, inr}
 use Rattle.vt_outside.specs.Faults.{Rose}
 use Rattle.vt_outside.specs.Shelf.{NamedFiles}
 use Rattle.vt_outside.specs.Sink.{AppendsPrefix}
 use Rattle.std.specs.Io.KnownBytes.{Appends}
 use Rattle.vt_cli.specs.Command.{Command, command_of, files_of}
-use Rattle.vt_cli.specs.Answer.{IsDecided, IsRefusal, IsCompleted, EndsUsage, IsAnswered, TellsUsage, FailsToRead, IsUnread, IsUnwritten, WritesFront}
+use Rattle.vt_cli.specs.Answer.{IsDecided, IsRefusal, IsCompleted, EndsUsage, IsAnswered, TellsUsage, IsUnread, IsUnwritten, WritesFront}
 use Rattle.vt_cli.specs.Inside.Prepared.{IsOfFiles, Suits, Prepares, Delivers, IsCutShort, AreUnread}
 use Rattle.vt_cli.specs.declared.ending.Role.{Role}
 use Rattle.vt_cli.specs.declared.ending.Ending.{Ending}
