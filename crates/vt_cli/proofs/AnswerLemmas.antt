@@ -1,11 +1,11 @@
 -- What an outcome that is prepared and delivered says of the ending and of what was written.
-use Rattle.std.proofs.Common.{ℕ, ◌≡◌, ◌⊎◌, List, [], ◌∷◌, ◌++◌, Option, Some, None, sym, ap, ◌∙◌, subst, refl, inl, inr}
+use Rattle.std.proofs.Common.{ℕ, ◌≡◌, List, [], ◌∷◌, ◌++◌, Option, Some, None, sym, ap, ◌∙◌, subst, refl, inl, inr}
 use Rattle.vt_outside.specs.Faults.{Rose}
 use Rattle.vt_outside.specs.Shelf.{NamedFiles}
 use Rattle.vt_outside.specs.Sink.{AppendsPrefix}
 use Rattle.std.specs.Io.KnownBytes.{Appends}
 use Rattle.vt_cli.specs.Command.{Command, command_of, files_of}
-use Rattle.vt_cli.specs.Answer.{IsDecided, IsRefusal, IsCompleted, EndsUsage, IsAnswered, TellsUsage, FailsToRead, IsUnread, IsUnwritten, WritesFront}
+use Rattle.vt_cli.specs.Answer.{IsDecided, IsRefusal, IsCompleted, EndsUsage, IsAnswered, TellsUsage, IsUnread, IsUnwritten, WritesFront}
 use Rattle.vt_cli.specs.Inside.Prepared.{IsOfFiles, Suits, Prepares, Delivers, IsCutShort, AreUnread}
 use Rattle.vt_cli.specs.declared.ending.Role.{Role}
 use Rattle.vt_cli.specs.declared.ending.Ending.{Ending}
@@ -109,7 +109,6 @@ module _ (words : List (List ℕ)) (told : Option NamedFiles) (before now : ℕ)
     (puts_before puts_now : ℕ) (old new : Option (List ℕ))
     (prepared : Prepares (command_of words) told before now failed outcome)
     (delivered : Delivers outcome ending puts_before puts_now old new) where
-
   unread_ending : (u : AreUnread (files_of (command_of words)) told before now failed outcome) → outcome.ending ≡ ReadFault u.role
   unread_ending u = ap (λ (o : Outcome). o.ending) u.tells
 
@@ -160,9 +159,9 @@ module _ (words : List (List ℕ)) (told : Option NamedFiles) (before now : ℕ)
     | inl whole ↦ elim prepared [
       | inl planned ↦ absurd (suits-no_read_fault (command_of words) file (subst (Suits (command_of words)) (sym whole.0 ∙ is) planned.suits))
       | inr u ↦
-        let same = same_file u.role file (sym (unread_ending u) ∙ sym whole.0 ∙ is) in
-        subst (λ (role : Role). IsUnread words told role before now failed old new) same
-        (record { fails = u.fails; line = subst (λ (o : Outcome). Appends old new o.text) u.tells whole.1 })
+          let same = same_file u.role file (sym (unread_ending u) ∙ sym whole.0 ∙ is) in
+          subst (λ (role : Role). IsUnread words told role before now failed old new) same
+          (record { fails = u.fails; line = subst (λ (o : Outcome). Appends old new o.text) u.tells whole.1 })
     ]
     | inr cut ↦ absurd (subst (λ (e : Ending). IsCutShort e puts_before puts_now) is cut.0)
   ]

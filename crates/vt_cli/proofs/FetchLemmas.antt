@@ -87,11 +87,11 @@ fetched_one files rest role name bytes told before mid now texts first next = re
   parts = first.parts ∙ sym (append_assoc first.part ((role, name) ∷ []) rest);
   fetched = record {
     given = IfSome-both told (λ known. texts_of known first.part ≡ Ok texts) (λ known. texts_of known ((role, name) ∷ []) ≡ Ok ((role, bytes) ∷ []))
-      (λ known. texts_of known (first.part ++ (role, name) ∷ []) ≡ Ok (texts ++ (role, bytes) ∷ []))
-      (λ known e f. texts_of-append known first.part ((role, name) ∷ []) texts e ∙ ap (after texts) f) first.fetched.given next.given;
+        (λ known. texts_of known (first.part ++ (role, name) ∷ []) ≡ Ok (texts ++ (role, bytes) ∷ []))
+        (λ known e f. texts_of-append known first.part ((role, name) ∷ []) texts e ∙ ap (after texts) f) first.fetched.given next.given;
     there = IfSome-both told (λ known. AreThere known first.part) (λ known. AreThere known ((role, name) ∷ []))
-      (λ known. AreThere known (first.part ++ (role, name) ∷ []))
-      (λ known a b. all_on _ first.part ((role, name) ∷ []) a b) first.fetched.there next.there;
+        (λ known. AreThere known (first.part ++ (role, name) ∷ []))
+        (λ known a b. all_on _ first.part ((role, name) ∷ []) a b) first.fetched.there next.there;
     quiet = next.quiet ∙ first.fetched.quiet;
     small = all_on _ texts ((role, bytes) ∷ []) first.fetched.small next.small;
   };
@@ -103,9 +103,9 @@ ended_at : (files rest : Files) (role : Role) (name : List ℕ) (told : Option N
     → AreStopped files told before now outcome ⊎ AreUnread files told before now failed outcome
 ended_at files rest role name told before mid now failed texts outcome first (inl stopped) = inl (record {
   given = IfSome-both told (λ known. texts_of known first.part ≡ Ok texts) (λ known. texts_of known ((role, name) ∷ []) ≡ Err outcome)
-    (λ known. texts_of known files ≡ Err outcome)
-    (λ known e f. ap (texts_of known) first.parts ∙ texts_of-append known first.part ((role, name) ∷ rest) texts e
-    ∙ ap (after texts) (text_ends (bytes_of role (file_at known name)) (texts_of known rest) role outcome f)) first.fetched.given stopped.given;
+      (λ known. texts_of known files ≡ Err outcome)
+      (λ known e f. ap (texts_of known) first.parts ∙ texts_of-append known first.part ((role, name) ∷ rest) texts e
+      ∙ ap (after texts) (text_ends (bytes_of role (file_at known name)) (texts_of known rest) role outcome f)) first.fetched.given stopped.given;
   suits = stopped.suits;
   quiet = stopped.quiet ∙ first.fetched.quiet;
 })
@@ -129,7 +129,6 @@ module _ (files : Files) (roles other_roles : List Role) (names other_names : Li
     (told here : Option NamedFiles) (before mid now : ℕ) (texts : Files)
     (so_far : AreFetchedTo files (zip roles names) told before mid texts)
     (role_is : roles ≡ role ∷ other_roles) (name_is : names ≡ name ∷ other_names) (told_is : here ≡ told) where
-
   begins : AreFetchedTo files ((role, name) ∷ zip other_roles other_names) told before mid texts
   begins =
       subst (λ (rest : Files). AreFetchedTo files rest told before mid texts)
@@ -140,7 +139,7 @@ module _ (files : Files) (roles other_roles : List Role) (names other_names : Li
       → all ≡ texts ++ (role, bytes) ∷ [] → AreFetchedTo files (zip other_roles other_names) told before now all
   turn_goes_on got bytes all is fetched added =
       let next = subst (λ (known : Option NamedFiles). AreFetched ((role, name) ∷ []) known mid now ((role, bytes) ∷ [])) told_is
-        (subst (λ (g : Result (List ℕ) Outcome). IfOk g (λ b. AreFetched ((role, name) ∷ []) here mid now ((role, b) ∷ []))) is fetched) in
+      (subst (λ (g : Result (List ℕ) Outcome). IfOk g (λ b. AreFetched ((role, name) ∷ []) here mid now ((role, b) ∷ []))) is fetched) in
       subst (λ (t : Files). AreFetchedTo files (zip other_roles other_names) told before now t) (sym added)
       (fetched_one files (zip other_roles other_names) role name bytes told before mid now texts begins next)
 
@@ -149,5 +148,5 @@ module _ (files : Files) (roles other_roles : List Role) (names other_names : Li
       → AreStopped files told before now outcome ⊎ AreUnread files told before now failed outcome
   turn_ends got outcome failed is ended =
       let last = subst (λ (known : Option NamedFiles). AreStopped ((role, name) ∷ []) known mid now outcome ⊎ FailsFile role name mid now failed outcome) told_is
-        (subst (λ (g : Result (List ℕ) Outcome). IfErr g (λ o. AreStopped ((role, name) ∷ []) here mid now o ⊎ FailsFile role name mid now failed o)) is ended) in
+      (subst (λ (g : Result (List ℕ) Outcome). IfErr g (λ o. AreStopped ((role, name) ∷ []) here mid now o ⊎ FailsFile role name mid now failed o)) is ended) in
       ended_at files (zip other_roles other_names) role name told before mid now failed texts outcome begins last

@@ -17,7 +17,7 @@ task_of word =
     else if pointwise nat_eq word (codes "matches") then Some Matches
     else None
 
--- what the other words name: the files, in their order
+-- what the other words name: the files, in their order; no two are the same to a command
 abbrev pub roles_of : Task → List Role
 roles_of Show = Metamodel ∷ Model ∷ []
 roles_of Matches = Metamodel ∷ Model ∷ Queries ∷ []

@@ -10,6 +10,8 @@ returns-in-Err-clause-ended g c =
 
 -- it is, and its bytes are kept
 pub each-preserved : goal.each-preserved
-each-preserved g c = (c.fetch_file.ensures.files ∙ c.each.invariant.0,
-    turn_goes_on _ _ _ _ _ _ _ _ _ _ _ _ _ c.each.invariant.1 c.in-Some.ensures.cases.0 c.in-Some-split_first.ensures.cases.0 c.each.invariant.0
-    c.in_ok-bytes.field-0 c.in-Ok.bytes _ c.in-Ok.is c.in_ok-bytes.ensures.fetched c.in_ok-add-in-Ok.ensures.added)
+each-preserved g c = (
+  c.fetch_file.ensures.files ∙ c.each.invariant.0,
+  turn_goes_on _ _ _ _ _ _ _ _ _ _ _ _ _ c.each.invariant.1 c.in-Some.ensures.cases.0 c.in-Some-split_first.ensures.cases.0 c.each.invariant.0
+      c.in_ok-bytes.field-0 c.in-Ok.bytes _ c.in-Ok.is c.in_ok-bytes.ensures.fetched c.in_ok-add-in-Ok.ensures.added,
+)
