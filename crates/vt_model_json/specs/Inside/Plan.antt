@@ -22,7 +22,7 @@ owned_by meta c = owned meta c 0 meta.references
 -- for each class up to a number there are the references that it has
 pub record IsPlan (meta : Metamodel) (count : ℕ) (plan : List (List RefId)) : Type 0 where
   pub counted : length plan ≡ count
-  pub owned : (c : ℕ) (found : List RefId) → slice_get plan c ≡ Some found → found ≡ owned_by meta (record { 0 = c })
+  pub lists : (c : ℕ) (found : List RefId) → slice_get plan c ≡ Some found → found ≡ owned_by meta (record { 0 = c })
 
 -- the name of the reference with this number
 abbrev pub reference_name : Metamodel → RefId → List ℕ
