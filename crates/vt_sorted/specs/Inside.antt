@@ -1,5 +1,6 @@
 -- No public clause cites a module below.
 pub mod Coding
+pub mod Fronts
 pub mod Places
 pub mod Pieces
 pub mod Held

@@ -6,19 +6,24 @@
 // Memory: what wanting it answers, and what can be copied.
 mod memory;
 mod plain;
-// A block of items, and many of them.
+// A front of the items, and the items to come.
+mod front;
+mod walk;
+// Items in chunks.
 mod chunk;
 mod large;
 mod pieces;
-mod walk;
 // The set.
 mod sorted;
 
 // Memory: what wanting it answers, and what can be copied.
 pub use memory::NoMemory;
 pub use plain::Plain;
-// A block of items, and many of them.
-pub use large::Large;
+// A front of the items, and the items to come.
+pub use front::Front;
 pub use walk::Walk;
 // The set.
 pub use sorted::Sorted;
+
+#[cfg(test)]
+mod tests;
