@@ -1,22 +1,22 @@
 -- By the references that its class has, an object has all its links.
-use Rattle.std.proofs.Common.{◌≡◌, ◌==◌, ℕ, suc, ◌+◌, ◌<◌, ◌≤◌, List, [], ◌∷◌, ◌++◌, length, map, Bool, true, false, true≢false, Option, Some, None, refl, sym, ap, subst, ◌∙◌, ◌⊎◌, inl, inr, arith, cond}
+use Rattle.std.proofs.Common.{◌≡◌, ◌==◌, ℕ, suc, ◌+◌, ◌<◌, ◌≤◌, List, [], ◌∷◌, ◌++◌, length, map, Bool, true, false, true≢false, Option, Some, None, refl, sym, ap, subst, ◌∙◌, inl, inr, arith, cond}
 use Rattle.std.specs.Prelude.{Contains, slice_get, option_map, unwrap_or, IsSomeAnd}
 use Rattle.std.proofs.lemmas.Bool.{eqb-true}
 use Rattle.std.proofs.lemmas.List.Elements.{All-contains}
-use Rattle.std.proofs.lemmas.Option.{slice_get_cases, slice_get_within}
+use Rattle.std.proofs.lemmas.Option.{slice_get_cases, slice_get_within, same_Some}
 use Rattle.serde_json.specs.Data.{Members, no_members}
 use Rattle.vt_base.specs.declared.numbers.ObjId.{ObjId}
 use Rattle.vt_base.specs.declared.numbers.ClassId.{ClassId}
 use Rattle.vt_base.specs.declared.numbers.RefId.{RefId}
-use Rattle.vt_meta.specs.Metamodel.{Metamodel, isa}
-use Rattle.vt_meta.specs.Model.{Model}
-use Rattle.vt_meta.specs.Fits.{FitsReference}
-use Rattle.vt_meta.specs.Valid.{IsValid, IsConcrete}
-use Rattle.vt_meta.specs.declared.metamodel.ClassInfo.{ClassInfo}
-use Rattle.vt_meta.specs.declared.metamodel.RefInfo.{RefInfo}
-use Rattle.vt_meta.specs.declared.model.Object.{Object}
-use Rattle.vt_meta.specs.declared.model.Link.{Link}
-use Rattle.vt_meta.proofs.MemberLemmas.{Contains-from_filter, Contains-find}
+use Rattle.vt_model.specs.Metamodel.{Metamodel, isa}
+use Rattle.vt_model.specs.Model.{Model}
+use Rattle.vt_model.specs.Fits.{FitsReference}
+use Rattle.vt_model.specs.Valid.{IsValid, IsConcrete}
+use Rattle.vt_model.specs.declared.metamodel.ClassInfo.{ClassInfo}
+use Rattle.vt_model.specs.declared.metamodel.RefInfo.{RefInfo}
+use Rattle.vt_model.specs.declared.model.Object.{Object}
+use Rattle.vt_model.specs.declared.model.Link.{Link}
+use Rattle.vt_model.proofs.MemberLemmas.{Contains-from_filter, Contains-find}
 use Rattle.vt_graph.specs.Asked.{live_at, class_at}
 use Rattle.vt_store.proofs.Linking.Lists.{filter-none}
 use Rattle.vt_store.proofs.Linking.Live.{live_at_is}
@@ -43,9 +43,6 @@ add_class meta c plan own before is = record {
 
 -- ---- an object of a class
 
-same_some : {A : Type 0} (x y : A) → Some x ≡ Some y → x ≡ y
-same_some x y e = cc
-
 module _ (meta : Metamodel) (g : Model) (valid : IsValid meta g) (o : ObjId) (c : ClassId) (live : class_at g o ≡ Some c) where
   -- a link that leads from the object is of a reference that its class has
   own_link : (link : Link) → Contains g.links link → link.source.0 ≡ o.0 → (r : ℕ) (info : RefInfo) → slice_get meta.references r ≡ Some info → link.reference.0 ≡ r → isa meta c info.class ≡ true
@@ -53,8 +50,8 @@ module _ (meta : Metamodel) (g : Model) (valid : IsValid meta g) (o : ObjId) (c 
       let fits = All-contains (FitsReference meta g.live) g.links link valid.links_fit there in
       let found = live_at_is meta g valid link.source fits.source.own fits.source.is_live in
       let source : link.source ≡ o = λ i. record { 0 = from i } in
-      let own : fits.source.own ≡ c = same_some fits.source.own c (sym (ap (option_map (λ (x : Object). x.class)) found) ∙ ap (class_at g) source ∙ live) in
-      let one : fits.info ≡ info = same_some fits.info info (sym fits.declared ∙ ap (slice_get meta.references) by ∙ declared) in
+      let own : fits.source.own ≡ c = same_Some fits.source.own c (sym (ap (option_map (λ (x : Object). x.class)) found) ∙ ap (class_at g) source ∙ live) in
+      let one : fits.info ≡ info = same_Some fits.info info (sym fits.declared ∙ ap (slice_get meta.references) by ∙ declared) in
       ap (λ (d : ClassId). isa meta d info.class) (sym own) ∙ ap (λ (x : RefInfo). isa meta fits.source.own x.class) (sym one) ∙ fits.source.below
 
   -- a reference that its class doesn't have has no target
@@ -98,7 +95,7 @@ module _ (meta : Metamodel) (g : Model) (valid : IsValid meta g) (o : ObjId) (c 
   concrete None found none = absurd (let n : None ≡ Some c = none in cc)
   concrete (Some x) found some =
       let there = Contains-find (λ (y : Object). y.number.0 == o.0) g.live x found in
-      subst (λ (d : ClassId). IsSomeAnd (slice_get meta.classes d.0) (λ info. info.is_abstract ≡ false)) (same_some x.class c some)
+      subst (λ (d : ClassId). IsSomeAnd (slice_get meta.classes d.0) (λ info. info.is_abstract ≡ false)) (same_Some x.class c some)
       (All-contains (IsConcrete meta) g.live x valid.classes_concrete there.0)
 
   within : (x : Option ClassInfo) → slice_get meta.classes c.0 ≡ x → IsSomeAnd x (λ info. info.is_abstract ≡ false) → c.0 < length meta.classes

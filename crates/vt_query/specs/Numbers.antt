@@ -4,7 +4,7 @@ use Rattle.vt_base.specs.declared.value.Kind.TheVariants as kind
 use Rattle.vt_base.specs.declared.value.Value.{Value}
 use Rattle.vt_base.specs.declared.value.Value.TheVariants as value
 use Rattle.vt_text.specs.declared.expr.Expr.{Expr, Bool, Int, Text, Enum, Slot, Negative', Not', Chain', Row_of-Expr, end_of-Expr, more_of-Expr, Row_of-Operand, end_of-Operand, more_of-Operand}
-use Rattle.vt_meta.specs.Metamodel.{Metamodel}
+use Rattle.vt_model.specs.Metamodel.{Metamodel}
 use Rattle.vt_query.specs.declared.program.Ty.{Ty}
 use Rattle.vt_query.specs.declared.program.Ty.TheVariants.{Class, Kind}
 

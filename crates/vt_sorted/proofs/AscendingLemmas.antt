@@ -1,20 +1,59 @@
 -- What stands in an ascending list, and where an item goes.
-use Rattle.std.proofs.Common.{◌≡◌, ℕ, zero, suc, ◌<◌, ◌≤◌, length, drop, get_or, Bool, true, false, ◌||◌, Result, Ok, Err, IfOk, IfErr, ◌+◌, List, [], ◌∷◌, ◌++◌, refl, sym, ap, ◌∙◌, arith}
+use Rattle.std.proofs.Common.{◌≡◌, ℕ, zero, suc, ◌<◌, ◌≤◌, length, take, drop, get_or, slice_get, Bool, true, false, not, cond, ◌||◌, Option, Some, None, Result, Ok, Err, IfOk, IfErr, ◌+◌, List, [], ◌∷◌, ◌++◌, refl, sym, ap, ◌∙◌, append_assoc, arith}
+use mathlib.Core.Bool.{true≢false}
 use Rattle.std.specs.declared.cmp.Ordering.{Ordering}
 use Rattle.std.specs.declared.cmp.Ordering.TheVariants.{Less, Equal, Greater}
-use Rattle.std.specs.List.{HoldsAt, AllWithin, insert, remove}
+use Rattle.std.specs.List.{AllByRecursion, HoldsAt, AllWithin, insert, remove, filter, find}
 use Rattle.std.specs.List.Sorted.{IsStrictlySortedBy, IsNonDecreasingBy, IsSearchInRange, IsBinarySearchResult}
-use Rattle.std.specs.Ordering.{is_eq, is_lt, ordering_index, ordering_reverse}
+use Rattle.std.specs.Option.{option_or}
+use Rattle.std.specs.Ordering.{eq_by_cmp, is_eq, is_lt, ordering_index, ordering_reverse}
 use Rattle.std.specs.Result.{is_ok}
 use Rattle.std.specs.Cmp.{IsTotalOrder}
 use Rattle.std.proofs.lemmas.Cmp.{tied_back, alike_right}
+use Rattle.std.proofs.lemmas.List.{take-append-drop, append-nil}
+use Rattle.std.proofs.lemmas.List.Elements.{filter-append}
+use Rattle.std.proofs.lemmas.List.Folds.{list_any-append, find-append}
 use Rattle.std.proofs.lemmas.List.Sorted.{searchable_from_sorted}
 use Rattle.std.proofs.lemmas.Map.Keys.{Less-from_sorted}
-use Rattle.vt_sorted.specs.Ascending.{has, by_order, with_item, without_item, items_from}
+use Rattle.vt_sorted.specs.Ascending.{has, items_below, items_from, with_item, without_item}
 use Rattle.vt_sorted.specs.Inside.Places.{StandsAt, GoesAt}
 use Rattle.vt_sorted.specs.Inside.Pieces.{AllBelow, AllAbove}
 
+-- what holds of each item holds of the one at a place
+pub all_at : {X : Type 0} (P : X → Type 0) (xs : List X) (i : ℕ) (d : X) → AllByRecursion P xs → i < length xs → P (get_or xs i d)
+all_at P [] i d a l = absurd (omega arith)
+all_at P (x ∷ xs) zero d a l = a.0
+all_at P (x ∷ xs) (suc i) d a l = all_at P xs i d a.1 (omega arith)
+
+or_false : (a : Bool) → (a || false) ≡ a
+or_false true = refl
+or_false false = refl
+
+-- where neither is true, the second isn't
+or_right : (a : Bool) {b : Bool} → (a || b) ≡ false → b ≡ false
+or_right true e = absurd (true≢false e)
+or_right false e = e
+
+or_None : {A : Type 0} (o : Option A) → option_or o None ≡ o
+or_None None = refl
+or_None (Some a) = refl
+
 module _ {K : Type 0} (R : K → K → Ordering) where
+  -- ---- what a test leaves of a list
+
+  filter_all : (p : K → Bool) (xs : List K) → AllByRecursion (λ x. p x ≡ true) xs → filter p xs ≡ xs
+  filter_all p [] a = refl
+  filter_all p (x ∷ xs) a = rw a.0 (ap (λ zs. x ∷ zs) (filter_all p xs a.1))
+
+  filter_none : (p : K → Bool) (xs : List K) → AllByRecursion (λ x. p x ≡ false) xs → filter p xs ≡ []
+  filter_none p [] a = refl
+  filter_none p (x ∷ xs) a = rw a.0 (filter_none p xs a.1)
+
+  -- each item that is below q, or above it, answers a test alike
+  below_answers : (f : Ordering → Bool) (b : Bool) → f Less ≡ b → (xs : List K) (q : K) → AllBelow R xs q → AllByRecursion (λ x. f (R x q) ≡ b) xs
+  below_answers f b e [] q a = tt
+  below_answers f b e (x ∷ xs) q a = (ap f a.0 ∙ e, below_answers f b e xs q a.1)
+
   -- ---- IsStrictlySortedBy
 
   pub sorted_none : IsStrictlySortedBy R []
@@ -84,157 +123,169 @@ module _ {K : Type 0} (R : K → K → Ordering) where
 
     -- ---- what stands between what is below and what is above
 
-    pub with_item-above : (ys : List K) (q : K) → AllAbove R ys q → with_item R ys q ≡ q ∷ ys
-    with_item-above [] q a = refl
-    with_item-above (y ∷ ys) q a = ap (λ r. by_order r (y ∷ with_item R ys q) (y ∷ ys) (q ∷ (y ∷ ys))) (greater_back q y a.0)
+    above_answers : (f : Ordering → Bool) (b : Bool) → f Greater ≡ b → (xs : List K) (q : K) → AllAbove R xs q → AllByRecursion (λ x. f (R x q) ≡ b) xs
+    above_answers f b e [] q a = tt
+    above_answers f b e (x ∷ xs) q a = (ap f (greater_back q x a.0) ∙ e, above_answers f b e xs q a.1)
 
-    pub without_item-above : (ys : List K) (q : K) → AllAbove R ys q → without_item R ys q ≡ ys
-    without_item-above [] q a = refl
-    without_item-above (y ∷ ys) q a = ap (λ r. by_order r (y ∷ without_item R ys q) ys (y ∷ ys)) (greater_back q y a.0)
+    pub items_below-below : (xs : List K) (q : K) → AllBelow R xs q → items_below R xs q ≡ xs
+    items_below-below xs q a = filter_all (λ x. is_lt (R x q)) xs (below_answers is_lt true refl xs q a)
 
-    pub items_from-above : (ys : List K) (q : K) → AllAbove R ys q → items_from R ys q ≡ ys
-    items_from-above [] q a = refl
-    items_from-above (y ∷ ys) q a = ap (λ r. by_order r (items_from R ys q) (y ∷ ys) (y ∷ ys)) (greater_back q y a.0)
+    pub items_below-above : (xs : List K) (q : K) → AllAbove R xs q → items_below R xs q ≡ []
+    items_below-above xs q a = filter_none (λ x. is_lt (R x q)) xs (above_answers is_lt false refl xs q a)
 
-    pub with_item-left : (xs ys : List K) (q : K) → AllAbove R ys q → with_item R (xs ++ ys) q ≡ with_item R xs q ++ ys
-    with_item-left [] ys q a = with_item-above ys q a
-    with_item-left (x ∷ xs) ys q a =
-        elim (R x q) as (λ r. by_order r (x ∷ with_item R (xs ++ ys) q) (x ∷ (xs ++ ys)) (q ∷ (x ∷ (xs ++ ys))) ≡ by_order r (x ∷ with_item R xs q) (x ∷ xs) (q ∷ (x ∷ xs)) ++ ys) [
-          | Less ↦ ap (λ zs. x ∷ zs) (with_item-left xs ys q a)
-          | Equal ↦ refl
-          | Greater ↦ refl
-        ]
+    pub items_from-below : (xs : List K) (q : K) → AllBelow R xs q → items_from R xs q ≡ []
+    items_from-below xs q a = filter_none (λ x. not (is_lt (R x q))) xs (below_answers (λ r. not (is_lt r)) false refl xs q a)
 
-    pub without_item-left : (xs ys : List K) (q : K) → AllAbove R ys q → without_item R (xs ++ ys) q ≡ without_item R xs q ++ ys
-    without_item-left [] ys q a = without_item-above ys q a
-    without_item-left (x ∷ xs) ys q a =
-        elim (R x q) as (λ r. by_order r (x ∷ without_item R (xs ++ ys) q) (xs ++ ys) (x ∷ (xs ++ ys)) ≡ by_order r (x ∷ without_item R xs q) xs (x ∷ xs) ++ ys) [
-          | Less ↦ ap (λ zs. x ∷ zs) (without_item-left xs ys q a)
-          | Equal ↦ refl
-          | Greater ↦ refl
-        ]
+    pub items_from-above : (xs : List K) (q : K) → AllAbove R xs q → items_from R xs q ≡ xs
+    items_from-above xs q a = filter_all (λ x. not (is_lt (R x q))) xs (above_answers (λ r. not (is_lt r)) true refl xs q a)
 
-    pub items_from-left : (xs ys : List K) (q : K) → AllAbove R ys q → items_from R (xs ++ ys) q ≡ items_from R xs q ++ ys
-    items_from-left [] ys q a = items_from-above ys q a
-    items_from-left (x ∷ xs) ys q a =
-        elim (R x q) as (λ r. by_order r (items_from R (xs ++ ys) q) (x ∷ (xs ++ ys)) (x ∷ (xs ++ ys)) ≡ by_order r (items_from R xs q) (x ∷ xs) (x ∷ xs) ++ ys) [
-          | Less ↦ items_from-left xs ys q a
-          | Equal ↦ refl
-          | Greater ↦ refl
-        ]
+    pub without_item-below : (xs : List K) (q : K) → AllBelow R xs q → without_item R xs q ≡ xs
+    without_item-below xs q a = filter_all (λ x. not (is_eq (R x q))) xs (below_answers (λ r. not (is_eq r)) true refl xs q a)
 
-    pub has-left : (xs ys : List K) (q : K) → AllAbove R ys q → has R (xs ++ ys) q ≡ has R xs q
-    has-left [] ys q a = has-below q ys a
-    has-left (x ∷ xs) ys q a = ap (λ b. is_eq (R q x) || b) (has-left xs ys q a)
+    pub without_item-above : (xs : List K) (q : K) → AllAbove R xs q → without_item R xs q ≡ xs
+    without_item-above xs q a = filter_all (λ x. not (is_eq (R x q))) xs (above_answers (λ r. not (is_eq r)) true refl xs q a)
 
-    pub with_item-right : (xs ys : List K) (q : K) → AllBelow R xs q → with_item R (xs ++ ys) q ≡ xs ++ with_item R ys q
-    with_item-right [] ys q b = refl
-    with_item-right (x ∷ xs) ys q b =
-        ap (λ r. by_order r (x ∷ with_item R (xs ++ ys) q) (x ∷ (xs ++ ys)) (q ∷ (x ∷ (xs ++ ys)))) b.0
-        ∙ ap (λ zs. x ∷ zs) (with_item-right xs ys q b.1)
+    pub has-above : (xs : List K) (q : K) → AllBelow R xs q → has R xs q ≡ false
+    has-above [] q b = refl
+    has-above (x ∷ xs) q b = rw (greater_back x q b.0) (has-above xs q b.1)
 
-    pub without_item-right : (xs ys : List K) (q : K) → AllBelow R xs q → without_item R (xs ++ ys) q ≡ xs ++ without_item R ys q
-    without_item-right [] ys q b = refl
-    without_item-right (x ∷ xs) ys q b =
-        ap (λ r. by_order r (x ∷ without_item R (xs ++ ys) q) (xs ++ ys) (x ∷ (xs ++ ys))) b.0
-        ∙ ap (λ zs. x ∷ zs) (without_item-right xs ys q b.1)
+    pub find-above : (xs : List K) (q : K) → AllBelow R xs q → find (eq_by_cmp R q) xs ≡ None
+    find-above [] q b = refl
+    find-above (x ∷ xs) q b = rw (greater_back x q b.0) (find-above xs q b.1)
 
-    pub items_from-right : (xs ys : List K) (q : K) → AllBelow R xs q → items_from R (xs ++ ys) q ≡ items_from R ys q
-    items_from-right [] ys q b = refl
-    items_from-right (x ∷ xs) ys q b =
-        ap (λ r. by_order r (items_from R (xs ++ ys) q) (x ∷ (xs ++ ys)) (x ∷ (xs ++ ys))) b.0
-        ∙ items_from-right xs ys q b.1
+    pub find-below : (xs : List K) (q : K) → AllAbove R xs q → find (eq_by_cmp R q) xs ≡ None
+    find-below [] q a = refl
+    find-below (x ∷ xs) q a = rw a.0 (find-below xs q a.1)
 
-    pub has-right : (xs ys : List K) (q : K) → AllBelow R xs q → has R (xs ++ ys) q ≡ has R ys q
-    has-right [] ys q b = refl
-    has-right (x ∷ xs) ys q b = ap (λ r. is_eq r || has R (xs ++ ys) q) (greater_back x q b.0) ∙ has-right xs ys q b.1
+    -- all that matters stands in xs: what comes before is below q, and what comes after is above it
+    module _ (before xs after : List K) (q : K) (below : AllBelow R before q) (above : AllAbove R after q) where
+      filter-between : (p : K → Bool) → filter p (before ++ (xs ++ after)) ≡ filter p before ++ (filter p xs ++ filter p after)
+      filter-between p = filter-append p before (xs ++ after) ∙ ap (λ zs. filter p before ++ zs) (filter-append p xs after)
+
+      pub has-between : has R (before ++ (xs ++ after)) q ≡ has R xs q
+      has-between =
+          list_any-append (eq_by_cmp R q) before (xs ++ after) ∙ ap (λ b. b || has R (xs ++ after) q) (has-above before q below)
+          ∙ list_any-append (eq_by_cmp R q) xs after ∙ ap (λ b. has R xs q || b) (has-below q after above) ∙ or_false (has R xs q)
+
+      pub find-between : find (eq_by_cmp R q) (before ++ (xs ++ after)) ≡ find (eq_by_cmp R q) xs
+      find-between =
+          find-append (eq_by_cmp R q) before (xs ++ after) ∙ ap (λ f. option_or f (find (eq_by_cmp R q) (xs ++ after))) (find-above before q below)
+          ∙ find-append (eq_by_cmp R q) xs after ∙ ap (λ f. option_or (find (eq_by_cmp R q) xs) f) (find-below after q above) ∙ or_None (find (eq_by_cmp R q) xs)
+
+      pub items_below-between : items_below R (before ++ (xs ++ after)) q ≡ before ++ items_below R xs q
+      items_below-between =
+          filter-between (λ x. is_lt (R x q)) ∙ ap (λ zs. zs ++ (items_below R xs q ++ items_below R after q)) (items_below-below before q below)
+          ∙ ap (λ zs. before ++ (items_below R xs q ++ zs)) (items_below-above after q above) ∙ ap (λ zs. before ++ zs) (append-nil (items_below R xs q))
+
+      pub items_from-between : items_from R (before ++ (xs ++ after)) q ≡ items_from R xs q ++ after
+      items_from-between =
+          filter-between (λ x. not (is_lt (R x q))) ∙ ap (λ zs. zs ++ (items_from R xs q ++ items_from R after q)) (items_from-below before q below)
+          ∙ ap (λ zs. items_from R xs q ++ zs) (items_from-above after q above)
+
+      pub without_item-between : without_item R (before ++ (xs ++ after)) q ≡ before ++ (without_item R xs q ++ after)
+      without_item-between =
+          filter-between (λ x. not (is_eq (R x q))) ∙ ap (λ zs. zs ++ (without_item R xs q ++ without_item R after q)) (without_item-below before q below)
+          ∙ ap (λ zs. before ++ (without_item R xs q ++ zs)) (without_item-above after q above)
+
+      pub with_item-between : with_item R (before ++ (xs ++ after)) q ≡ before ++ (with_item R xs q ++ after)
+      with_item-between =
+          ap (λ b. cond b (before ++ (xs ++ after)) (items_below R (before ++ (xs ++ after)) q ++ q ∷ items_from R (before ++ (xs ++ after)) q)) has-between
+          ∙ elim (has R xs q) as (λ b. cond b (before ++ (xs ++ after)) (items_below R (before ++ (xs ++ after)) q ++ q ∷ items_from R (before ++ (xs ++ after)) q) ≡ before ++ (cond b xs (items_below R xs q ++ q ∷ items_from R xs q) ++ after)) [
+            | true ↦ refl
+            | false ↦ ap (λ zs. zs ++ q ∷ items_from R (before ++ (xs ++ after)) q) items_below-between
+                ∙ ap (λ zs. (before ++ items_below R xs q) ++ q ∷ zs) items_from-between
+                ∙ append_assoc before (items_below R xs q) (q ∷ (items_from R xs q ++ after))
+                ∙ ap (λ zs. before ++ zs) (sym (append_assoc (items_below R xs q) (q ∷ items_from R xs q) after))
+          ]
 
     -- ---- an edit leaves the list ascending
 
-    above-with_item : (p : K) (xs : List K) (q : K) → R p q ≡ Less → AllAbove R xs p → AllAbove R (with_item R xs q) p
-    above-with_item p [] q l b = (l, tt)
-    above-with_item p (x ∷ xs) q l b =
-        elim (R x q) as (λ r. AllAbove R (by_order r (x ∷ with_item R xs q) (x ∷ xs) (q ∷ (x ∷ xs))) p) [
-          | Less ↦ (b.0, above-with_item p xs q l b.1)
-          | Equal ↦ b
-          | Greater ↦ (l, b)
+    pub above-filter : (p : K → Bool) (x : K) (ys : List K) → AllAbove R ys x → AllAbove R (filter p ys) x
+    above-filter p x [] a = tt
+    above-filter p x (y ∷ ys) a =
+        elim (p y) as (λ b. AllAbove R (cond b (y ∷ filter p ys) (filter p ys)) x) [
+          | true ↦ (a.0, above-filter p x ys a.1)
+          | false ↦ above-filter p x ys a.1
         ]
 
-    pub sorted-with_item : (xs : List K) (q : K) → IsStrictlySortedBy R xs → IsStrictlySortedBy R (with_item R xs q)
-    sorted-with_item [] q s = sorted_cons q [] tt sorted_none
-    sorted-with_item (x ∷ xs) q s =
-        elim (R x q) as (λ r. R x q ≡ r → IsStrictlySortedBy R (by_order r (x ∷ with_item R xs q) (x ∷ xs) (q ∷ (x ∷ xs)))) [
-          | Less ↦ λ l. sorted_cons x _ (above-with_item x xs q l (head_below x xs s)) (sorted-with_item xs q (tail_sorted x xs s))
-          | Equal ↦ λ _. s
-          | Greater ↦ λ g. sorted_cons q _ (above_all q x xs (less_back x q g) s) s
+    pub sorted-filter : (p : K → Bool) (xs : List K) → IsStrictlySortedBy R xs → IsStrictlySortedBy R (filter p xs)
+    sorted-filter p [] s = s
+    sorted-filter p (x ∷ xs) s =
+        elim (p x) as (λ b. IsStrictlySortedBy R (cond b (x ∷ filter p xs) (filter p xs))) [
+          | true ↦ sorted_cons x _ (above-filter p x xs (head_below x xs s)) (sorted-filter p xs (tail_sorted x xs s))
+          | false ↦ sorted-filter p xs (tail_sorted x xs s)
+        ]
+
+    above-append : (x : K) (ys zs : List K) → AllAbove R ys x → AllAbove R zs x → AllAbove R (ys ++ zs) x
+    above-append x [] zs a b = b
+    above-append x (y ∷ ys) zs a b = (a.0, above-append x ys zs a.1 b)
+
+    sorted-between : (xs : List K) (q : K) → IsStrictlySortedBy R xs → has R xs q ≡ false → IsStrictlySortedBy R (items_below R xs q ++ q ∷ items_from R xs q)
+    sorted-between [] q s e = sorted_cons q [] tt sorted_none
+    sorted-between (x ∷ xs) q s e =
+        elim (R x q) as (λ r. R x q ≡ r → IsStrictlySortedBy R (items_below R (x ∷ xs) q ++ q ∷ items_from R (x ∷ xs) q)) [
+          | Less ↦ λ l.
+              let b : AllAbove R xs x = head_below x xs s in
+              rw l
+              (sorted_cons x _
+              (above-append x (items_below R xs q) (q ∷ items_from R xs q) (above-filter _ x xs b) (l, above-filter _ x xs b))
+              (sorted-between xs q (tail_sorted x xs s) (or_right (is_eq (R q x)) e)))
+          | Equal ↦ λ l. absurd (true≢false (sym (ap (λ r. is_eq r || has R xs q) (tied_back o x q l)) ∙ e))
+          | Greater ↦ λ g.
+              let a : AllAbove R (x ∷ xs) q = above_all q x xs (less_back x q g) s in
+              rw (items_below-above (x ∷ xs) q a) (rw (items_from-above (x ∷ xs) q a) (sorted_cons q (x ∷ xs) a s))
         ] refl
 
-    above-without_item : (p : K) (xs : List K) (q : K) → AllAbove R xs p → AllAbove R (without_item R xs q) p
-    above-without_item p [] q b = tt
-    above-without_item p (x ∷ xs) q b =
-        elim (R x q) as (λ r. AllAbove R (by_order r (x ∷ without_item R xs q) xs (x ∷ xs)) p) [ Less ↦ (b.0, above-without_item p xs q b.1) | Equal ↦ b.1 | Greater ↦ b ]
+    pub sorted-with_item : (xs : List K) (q : K) → IsStrictlySortedBy R xs → IsStrictlySortedBy R (with_item R xs q)
+    sorted-with_item xs q s =
+        elim (has R xs q) as (λ b. has R xs q ≡ b → IsStrictlySortedBy R (cond b xs (items_below R xs q ++ q ∷ items_from R xs q))) [
+          | true ↦ λ _. s
+          | false ↦ λ e. sorted-between xs q s e
+        ] refl
 
     pub sorted-without_item : (xs : List K) (q : K) → IsStrictlySortedBy R xs → IsStrictlySortedBy R (without_item R xs q)
-    sorted-without_item [] q s = s
-    sorted-without_item (x ∷ xs) q s =
-        elim (R x q) as (λ r. IsStrictlySortedBy R (by_order r (x ∷ without_item R xs q) xs (x ∷ xs))) [
-          | Less ↦ sorted_cons x _ (above-without_item x xs q (head_below x xs s)) (sorted-without_item xs q (tail_sorted x xs s))
-          | Equal ↦ tail_sorted x xs s
-          | Greater ↦ s
-        ]
+    sorted-without_item xs q s = sorted-filter (λ x. not (is_eq (R x q))) xs s
 
     -- ---- a binary search ends where the item stands, or where it goes
 
-    above-at : (x : K) (xs : List K) (i : ℕ) → AllAbove R xs x → i < length xs → R x (get_or xs i x) ≡ Less
-    above-at x [] i b l = absurd (omega arith)
-    above-at x (y ∷ xs) zero b l = b.0
-    above-at x (y ∷ xs) (suc i) b l = above-at x xs i b.1 (omega arith)
+    -- what is above an item is above all that is equal to it
+    above_tied : (x q : K) (ys : List K) → R x q ≡ Equal → AllAbove R ys x → AllAbove R ys q
+    above_tied x q [] e a = tt
+    above_tied x q (y ∷ ys) e a = (sym (o.congr x q y e) ∙ a.0, above_tied x q ys e a.1)
 
-    or_true : (a : Bool) {b : Bool} → b ≡ true → (a || b) ≡ true
-    or_true true e = refl
-    or_true false e = e
-
-    at_place : (xs : List K) (q : K) (i : ℕ) → IsStrictlySortedBy R xs → i < length xs → HoldsAt (λ y. R y q ≡ Equal) xs i → record { stands : has R xs q ≡ true; added : with_item R xs q ≡ xs; taken : remove xs i ≡ without_item R xs q; from : items_from R xs q ≡ drop i xs }
+    at_place : (xs : List K) (q : K) (i : ℕ) → IsStrictlySortedBy R xs → i < length xs → HoldsAt (λ y. R y q ≡ Equal) xs i → record { stands : has R xs q ≡ true; found : find (eq_by_cmp R q) xs ≡ slice_get xs i; taken : remove xs i ≡ without_item R xs q; from : items_from R xs q ≡ drop i xs }
     at_place [] q i s l h = absurd (omega arith)
     at_place (x ∷ xs) q zero s l h =
         let e : R x q ≡ Equal = h x in
+        let back : R q x ≡ Equal = tied_back o x q e in
+        let a : AllAbove R xs q = above_tied x q xs e (head_below x xs s) in
         record {
-          stands = ap (λ r. is_eq r || has R xs q) (tied_back o x q e);
-          added = ap (λ r. by_order r (x ∷ with_item R xs q) (x ∷ xs) (q ∷ (x ∷ xs))) e;
-          taken = sym (ap (λ r. by_order r (x ∷ without_item R xs q) xs (x ∷ xs)) e);
-          from = ap (λ r. by_order r (items_from R xs q) (x ∷ xs) (x ∷ xs)) e;
+          stands = ap (λ r. is_eq r || has R xs q) back;
+          found = ap (λ r. cond (is_eq r) (Some x) (find (eq_by_cmp R q) xs)) back;
+          taken = sym (ap (λ r. cond (not (is_eq r)) (x ∷ without_item R xs q) (without_item R xs q)) e ∙ without_item-above xs q a);
+          from = ap (λ r. cond (not (is_lt r)) (x ∷ items_from R xs q) (items_from R xs q)) e ∙ ap (λ zs. x ∷ zs) (items_from-above xs q a);
         }
     at_place (x ∷ xs) q (suc i) s l h =
         let in_tail : i < length xs = omega arith in
         let deep = at_place xs q i (tail_sorted x xs s) in_tail h in
-        let less : R x q ≡ Less = sym (alike_right o (get_or xs i x) q x (h x)) ∙ above-at x xs i (head_below x xs s) in_tail in
+        let less : R x q ≡ Less = sym (alike_right o (get_or xs i x) q x (h x)) ∙ all_at (λ y. R x y ≡ Less) xs i x (head_below x xs s) in_tail in
+        let back : R q x ≡ Greater = greater_back x q less in
         record {
-          stands = or_true (is_eq (R q x)) deep.stands;
-          added = ap (λ r. by_order r (x ∷ with_item R xs q) (x ∷ xs) (q ∷ (x ∷ xs))) less ∙ ap (λ zs. x ∷ zs) deep.added;
-          taken = ap (λ zs. x ∷ zs) deep.taken ∙ sym (ap (λ r. by_order r (x ∷ without_item R xs q) xs (x ∷ xs)) less);
-          from = ap (λ r. by_order r (items_from R xs q) (x ∷ xs) (x ∷ xs)) less ∙ deep.from;
+          stands = ap (λ r. is_eq r || has R xs q) back ∙ deep.stands;
+          found = ap (λ r. cond (is_eq r) (Some x) (find (eq_by_cmp R q) xs)) back ∙ deep.found;
+          taken = ap (λ zs. x ∷ zs) deep.taken ∙ sym (ap (λ r. cond (not (is_eq r)) (x ∷ without_item R xs q) (without_item R xs q)) less);
+          from = ap (λ r. cond (not (is_lt r)) (x ∷ items_from R xs q) (items_from R xs q)) less ∙ deep.from;
         }
 
-    at_gap : (xs : List K) (q : K) (i : ℕ) → IsStrictlySortedBy R xs → i ≤ length xs → AllWithin (λ y. R y q ≡ Less) xs 0 i → AllWithin (λ y. R y q ≡ Greater) xs i (length xs) → record { absent : has R xs q ≡ false; added : insert xs i q ≡ with_item R xs q; taken : without_item R xs q ≡ xs; from : items_from R xs q ≡ drop i xs }
-    at_gap [] q zero s l low high = record { absent = refl; added = refl; taken = refl; from = refl }
+    at_gap : (xs : List K) (q : K) (i : ℕ) → IsStrictlySortedBy R xs → i ≤ length xs → AllWithin (λ y. R y q ≡ Less) xs 0 i → AllWithin (λ y. R y q ≡ Greater) xs i (length xs) → record { below : AllBelow R (take i xs) q; above : AllAbove R (drop i xs) q }
+    at_gap [] q zero s l low high = record { below = tt; above = tt }
     at_gap [] q (suc i) s l low high = absurd (omega arith)
     at_gap (x ∷ xs) q zero s l low high =
         let g : R x q ≡ Greater = high 0 x (omega arith) (omega arith) in
-        record {
-          absent = has-below q (x ∷ xs) (above_all q x xs (less_back x q g) s);
-          added = sym (ap (λ r. by_order r (x ∷ with_item R xs q) (x ∷ xs) (q ∷ (x ∷ xs))) g);
-          taken = ap (λ r. by_order r (x ∷ without_item R xs q) xs (x ∷ xs)) g;
-          from = ap (λ r. by_order r (items_from R xs q) (x ∷ xs) (x ∷ xs)) g;
-        }
+        record { below = tt; above = above_all q x xs (less_back x q g) s }
     at_gap (x ∷ xs) q (suc i) s l low high =
-        let less : R x q ≡ Less = low 0 x (omega arith) (omega arith) in
         let deep = at_gap xs q i (tail_sorted x xs s) (omega arith) (λ k d _ lt. low (suc k) d (omega arith) (omega arith)) (λ k d le lt. high (suc k) d (omega arith) (omega arith)) in
-        record {
-          absent = ap (λ r. is_eq r || has R xs q) (greater_back x q less) ∙ deep.absent;
-          added = ap (λ zs. x ∷ zs) deep.added ∙ sym (ap (λ r. by_order r (x ∷ with_item R xs q) (x ∷ xs) (q ∷ (x ∷ xs))) less);
-          taken = ap (λ r. by_order r (x ∷ without_item R xs q) xs (x ∷ xs)) less ∙ ap (λ zs. x ∷ zs) deep.taken;
-          from = ap (λ r. by_order r (items_from R xs q) (x ∷ xs) (x ∷ xs)) less ∙ deep.from;
-        }
+        record { below = (low 0 x (omega arith) (omega arith), deep.below); above = deep.above }
 
     rises : (xs : List K) (q : K) → IsStrictlySortedBy R xs → IsNonDecreasingBy (λ y. ordering_index (R y q)) xs
     rises xs q s = searchable_from_sorted o (λ y. y) xs q (λ k d _ lt. ap is_lt (greater_back _ _ (Less-from_sorted R xs k (k + 1) d s (omega arith) lt)))
@@ -243,14 +294,33 @@ module _ {K : Type 0} (R : K → K → Ordering) where
     stands_at xs q (Err i) s l h = tt
     stands_at xs q (Ok i) s l h =
         let facts = at_place xs q i s l h in
-        record { in_range = l; stands = facts.stands; added = facts.added; taken = facts.taken; ascends = rw facts.taken (sorted-without_item xs q s); from = facts.from }
+        record {
+          in_range = l;
+          stands = facts.stands;
+          found = facts.found;
+          added = ap (λ b. cond b xs (items_below R xs q ++ q ∷ items_from R xs q)) facts.stands;
+          taken = facts.taken;
+          ascends = rw facts.taken (sorted-without_item xs q s);
+          from = facts.from;
+        }
 
     pub goes_at : (xs : List K) (q : K) (r : Result ℕ ℕ) → IsStrictlySortedBy R xs → IsSearchInRange r (length xs) → IsBinarySearchResult (λ y. R y q) xs r → IfErr r (GoesAt R xs q)
     goes_at xs q (Ok i) s l h = tt
     goes_at xs q (Err i) s l h =
         let split = h (rises xs q s) in
-        let facts = at_gap xs q i s l split.0 split.1 in
-        record { in_range = l; absent = facts.absent; added = facts.added; ascends = rw facts.added (sorted-with_item xs q s); taken = facts.taken; from = facts.from }
+        let gap = at_gap xs q i s l split.0 split.1 in
+        let whole : take i xs ++ ([] ++ drop i xs) ≡ xs = take-append-drop i xs in
+        let absent : has R xs q ≡ false = ap (λ zs. has R zs q) (sym whole) ∙ has-between (take i xs) [] (drop i xs) q gap.below gap.above in
+        let added : insert xs i q ≡ with_item R xs q = sym (ap (λ zs. with_item R zs q) (sym whole) ∙ with_item-between (take i xs) [] (drop i xs) q gap.below gap.above) in
+        record {
+          in_range = l;
+          absent = absent;
+          found = ap (find (eq_by_cmp R q)) (sym whole) ∙ find-between (take i xs) [] (drop i xs) q gap.below gap.above;
+          added = added;
+          ascends = rw added (sorted-with_item xs q s);
+          taken = ap (λ zs. without_item R zs q) (sym whole) ∙ without_item-between (take i xs) [] (drop i xs) q gap.below gap.above ∙ whole;
+          from = ap (λ zs. items_from R zs q) (sym whole) ∙ items_from-between (take i xs) [] (drop i xs) q gap.below gap.above;
+        }
 
     -- a search tells whether the item stands
     pub found_is : (xs : List K) (q : K) (r : Result ℕ ℕ) → IfOk r (StandsAt R xs q) → IfErr r (GoesAt R xs q) → is_ok r ≡ has R xs q

@@ -1,17 +1,16 @@
 -- A list in pieces, and one of them changed.
 use Rattle.std.proofs.Common.{◌≡◌, ℕ, zero, suc, ◌<◌, ◌≤◌, ◌-◌, length, get_or, set, take, drop, true, false, ◌+◌, List, [], ◌∷◌, ◌++◌, refl, sym, ap, ◌∙◌, append_assoc, arith, subst, drop-cons, add-one, length-append, inl, inr, slice_get}
 use Rattle.std.specs.declared.cmp.Ordering.{Ordering}
-use Rattle.std.specs.declared.cmp.Ordering.TheVariants.{Less, Equal, Greater}
-use Rattle.std.specs.List.{AllByRecursion, insert, remove}
+use Rattle.std.specs.List.{AllByRecursion, insert, remove, find}
 use Rattle.std.specs.List.Sorted.{IsStrictlySortedBy}
-use Rattle.std.specs.Ordering.{is_lt}
+use Rattle.std.specs.Ordering.{eq_by_cmp}
 use Rattle.std.specs.Cmp.{IsTotalOrder}
-use Rattle.std.proofs.lemmas.List.{take-append-drop, set_split, drop-drop, set-get_or, length-set, append-nil}
+use Rattle.std.proofs.lemmas.List.{take-append-drop, set_split, set-get_or, length-set, append-nil}
 use Rattle.std.proofs.lemmas.List.Edits.{length-insert, length-remove}
 use Rattle.vt_sorted.specs.Ascending.{has, with_item, without_item, items_from}
 use Rattle.vt_sorted.specs.Inside.Places.{StandsAt, GoesAt}
-use Rattle.vt_sorted.specs.Inside.Pieces.{joined, begins_above, above_half, room, IsFilled, AllBelow, AllAbove, IsPlace, IsPutBeside, merged, StandsIn, GoesIn, IsMergePlace}
-use Rattle.vt_sorted.proofs.AscendingLemmas.{above-append_right, sorted_left, sorted_right, above_all, below-before, with_item-left, with_item-right, without_item-left, without_item-right, items_from-left, items_from-right, has-left, has-right, sorted-with_item, sorted-without_item}
+use Rattle.vt_sorted.specs.Inside.Pieces.{joined, above_half, room, IsFilled, IsPlace, IsPutBeside, merged, StandsIn, GoesIn, IsMergePlace}
+use Rattle.vt_sorted.proofs.AscendingLemmas.{all_at, sorted_left, sorted_right, with_item-between, without_item-between, items_from-between, has-between, find-between, sorted-with_item, sorted-without_item}
 
 -- ---- joined
 
@@ -41,85 +40,46 @@ length-joined-set (b ∷ bs) (suc j) c l =
 
 -- ---- filled
 
-pub all_at : {T : Type 0} (ds : List (List T)) (j : ℕ) → AllByRecursion (λ d. 1 ≤ length d) ds → j < length ds → 1 ≤ length (get_or ds j [])
-all_at [] j a l = absurd (omega arith)
-all_at (d ∷ ds) zero a l = a.0
-all_at (d ∷ ds) (suc j) a l = all_at ds j a.1 (omega arith)
-
 pub filled_at : {T : Type 0} (cs : List (List T)) (j : ℕ) → IsFilled cs → 0 < j → j < length cs → 1 ≤ length (get_or cs j [])
 filled_at [] j f p l = absurd (omega arith)
 filled_at (c ∷ cs) zero f p l = absurd (omega arith)
-filled_at (c ∷ cs) (suc j) f p l = all_at cs j f (omega arith)
+filled_at (c ∷ cs) (suc j) f p l = all_at (λ d. 1 ≤ length d) cs j [] f (omega arith)
 
--- ---- a search among the first items
+-- ---- an edit at the place of q
 
 module _ {T : Type 0} (R : T → T → Ordering) (o : IsTotalOrder R) where
-  lt-Less : (r : Ordering) → is_lt r ≡ true → r ≡ Less
-  lt-Less Less e = refl
-  lt-Less Equal e = cc
-  lt-Less Greater e = cc
-
-  above_from : (c a : List T) (q : T) → IsStrictlySortedBy R (c ++ a) → begins_above R c q ≡ true → AllAbove R (c ++ a) q
-  above_from [] a q s e = cc
-  above_from (x ∷ xs) a q s e = above_all R o q x (xs ++ a) (lt-Less _ e) s
-
-  below_to : (b c a : List T) (q : T) → IsStrictlySortedBy R (b ++ (c ++ a)) → 1 ≤ length c → begins_above R c q ≡ false → AllBelow R b q
-  below_to b [] a q s l e = absurd (omega arith)
-  below_to b (x ∷ xs) a q s l e = below-before R o q x b (xs ++ a) s e
-
-  -- a piece that begins above q: it and the later ones are above
-  pub step_above : (cs : List (List T)) (j : ℕ) (q : T) → IsStrictlySortedBy R (joined cs) → j < length cs → begins_above R (get_or cs j []) q ≡ true → AllAbove R (joined (drop j cs)) q
-  step_above cs j q s l e =
-      let whole : drop j cs ≡ get_or cs j [] ∷ drop (suc j) cs = drop-cons cs j [] l in
-      let sorted : IsStrictlySortedBy R (joined (drop j cs)) = sorted_right R (joined (take j cs)) (joined (drop j cs)) (subst (IsStrictlySortedBy R) (joined_parts cs j) s) in
-      subst (λ ds. AllAbove R (joined ds) q) (sym whole) (above_from (get_or cs j []) (joined (drop (suc j) cs)) q (subst (λ ds. IsStrictlySortedBy R (joined ds)) whole sorted) e)
-
-  -- a piece that doesn't: the earlier ones are below
-  pub step_below : (cs : List (List T)) (j : ℕ) (q : T) → IsStrictlySortedBy R (joined cs) → IsFilled cs → j < length cs → begins_above R (get_or cs j []) q ≡ false → AllBelow R (joined (take j cs)) q
-  step_below cs zero q s f l e = tt
-  step_below cs (suc j) q s f l e =
-      below_to (joined (take (suc j) cs)) (get_or cs (suc j) []) (joined (drop (suc (suc j)) cs)) q
-      (subst (IsStrictlySortedBy R) (joined_around cs (suc j) l) s) (filled_at cs (suc j) f (omega arith) l) e
-
-  -- ---- an edit at the place of q
-
   pub with_item-place : (cs : List (List T)) (q : T) (j : ℕ) → IsPlace R cs q j → with_item R (joined cs) q ≡ joined (set cs j (with_item R (get_or cs j []) q))
   with_item-place cs q j p =
       ap (λ xs. with_item R xs q) (joined_around cs j p.in_range)
-      ∙ with_item-right R o (joined (take j cs)) (get_or cs j [] ++ joined (drop (suc j) cs)) q p.below
-      ∙ ap (λ xs. joined (take j cs) ++ xs) (with_item-left R o (get_or cs j []) (joined (drop (suc j) cs)) q p.above)
+      ∙ with_item-between R o (joined (take j cs)) (get_or cs j []) (joined (drop (suc j) cs)) q p.below p.above
       ∙ sym (joined-set cs j (with_item R (get_or cs j []) q) p.in_range)
 
   pub without_item-place : (cs : List (List T)) (q : T) (j : ℕ) → IsPlace R cs q j → without_item R (joined cs) q ≡ joined (set cs j (without_item R (get_or cs j []) q))
   without_item-place cs q j p =
       ap (λ xs. without_item R xs q) (joined_around cs j p.in_range)
-      ∙ without_item-right R o (joined (take j cs)) (get_or cs j [] ++ joined (drop (suc j) cs)) q p.below
-      ∙ ap (λ xs. joined (take j cs) ++ xs) (without_item-left R o (get_or cs j []) (joined (drop (suc j) cs)) q p.above)
+      ∙ without_item-between R o (joined (take j cs)) (get_or cs j []) (joined (drop (suc j) cs)) q p.below p.above
       ∙ sym (joined-set cs j (without_item R (get_or cs j []) q) p.in_range)
 
   pub items_from-place : (cs : List (List T)) (q : T) (j : ℕ) → IsPlace R cs q j → items_from R (joined cs) q ≡ items_from R (get_or cs j []) q ++ joined (drop (suc j) cs)
   items_from-place cs q j p =
       ap (λ xs. items_from R xs q) (joined_around cs j p.in_range)
-      ∙ items_from-right R o (joined (take j cs)) (get_or cs j [] ++ joined (drop (suc j) cs)) q p.below
-      ∙ items_from-left R o (get_or cs j []) (joined (drop (suc j) cs)) q p.above
+      ∙ items_from-between R o (joined (take j cs)) (get_or cs j []) (joined (drop (suc j) cs)) q p.below p.above
 
   pub has-place : (cs : List (List T)) (q : T) (j : ℕ) → IsPlace R cs q j → has R (joined cs) q ≡ has R (get_or cs j []) q
   has-place cs q j p =
       ap (λ xs. has R xs q) (joined_around cs j p.in_range)
-      ∙ has-right R o (joined (take j cs)) (get_or cs j [] ++ joined (drop (suc j) cs)) q p.below
-      ∙ has-left R o (get_or cs j []) (joined (drop (suc j) cs)) q p.above
+      ∙ has-between R o (joined (take j cs)) (get_or cs j []) (joined (drop (suc j) cs)) q p.below p.above
+
+  pub find-place : (cs : List (List T)) (q : T) (j : ℕ) → IsPlace R cs q j → find (eq_by_cmp R q) (joined cs) ≡ find (eq_by_cmp R q) (get_or cs j [])
+  find-place cs q j p =
+      ap (find (eq_by_cmp R q)) (joined_around cs j p.in_range)
+      ∙ find-between R o (joined (take j cs)) (get_or cs j []) (joined (drop (suc j) cs)) q p.below p.above
 
   -- a piece of an ascending list ascends
   pub piece_ascends : (cs : List (List T)) (j : ℕ) → IsStrictlySortedBy R (joined cs) → j < length cs → IsStrictlySortedBy R (get_or cs j [])
   piece_ascends cs j s l =
       sorted_left R (get_or cs j []) (joined (drop (suc j) cs))
       (sorted_right R (joined (take j cs)) (get_or cs j [] ++ joined (drop (suc j) cs)) (subst (IsStrictlySortedBy R) (joined_around cs j l) s))
-
-  pub above_later : (cs : List (List T)) (k j : ℕ) (q : T) → k ≤ j → AllAbove R (joined (drop k cs)) q → AllAbove R (joined (drop j cs)) q
-  above_later cs k j q l a =
-      let far : drop (j - k) (drop k cs) ≡ drop j cs = drop-drop (j - k) k cs ∙ ap (λ n. drop n cs) (omega arith) in
-      let parts : joined (drop k cs) ≡ joined (take (j - k) (drop k cs)) ++ joined (drop j cs) = joined_parts (drop k cs) (j - k) ∙ ap (λ ds. joined (take (j - k) (drop k cs)) ++ joined ds) far in
-      above-append_right R q (joined (take (j - k) (drop k cs))) (joined (drop j cs)) (subst (λ xs. AllAbove R xs q) parts a)
 
 -- ---- one piece becomes two
 
@@ -291,6 +251,7 @@ module _ {T : Type 0} (R : T → T → Ordering) (o : IsTotalOrder R) where
         in_range = p.in_range;
         place = s.in_range;
         stands = has-place R o cs q j p ∙ s.stands;
+        found = find-place R o cs q j p ∙ s.found;
         added = with_item-place R o cs q j p ∙ ap (λ c. joined (set cs j c)) s.added ∙ ap joined (set-get_or cs j []);
         taken = taken;
         shorter =
@@ -308,6 +269,7 @@ module _ {T : Type 0} (R : T → T → Ordering) (o : IsTotalOrder R) where
         in_range = p.in_range;
         place = s.in_range;
         absent = has-place R o cs q j p ∙ s.absent;
+        found = find-place R o cs q j p ∙ s.found;
         added = added;
         taken = without_item-place R o cs q j p ∙ ap (λ c. joined (set cs j c)) s.taken ∙ ap joined (set-get_or cs j []);
         longer =

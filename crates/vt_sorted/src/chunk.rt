@@ -1,14 +1,14 @@
 // A chunk: at most `CHUNK` items, in a block that has room for as many.
-ghost use Rattle.std.specs.Prelude.{◌≡◌, ◌+◌, ◌<◌, ◌≤◌, [], ◌++◌, length, slice_get, slice_index_or, IfOk, IfErr, vec_capacity, vec_len};
+ghost use Rattle.std.specs.Prelude.{◌≡◌, ◌+◌, ◌<◌, ◌≤◌, [], ◌++◌, length, slice_get, slice_index_or, IfOk, IfErr, OnOk, vec_capacity, vec_len};
 ghost use Rattle.std.specs.List.{insert, remove};
 ghost use Rattle.std.specs.List.Sorted.{IsStrictlySortedBy};
 ghost use Rattle.std.specs.Option.{option_copied};
-ghost use Rattle.vt_sorted.specs.Inside.Places.{StandsAt, GoesAt};
-ghost use Rattle.vt_sorted.specs.Inside.Pieces.{begins_above};
+ghost use Rattle.vt_sorted.specs.Inside.Places.{StandsAt, GoesAt, EndsAt};
+ghost use Rattle.vt_sorted.specs.Inside.Pieces.{begins_after};
 
-use crate::NoMemory;
+use crate::front::end_of;
+use crate::{Front, NoMemory};
 use std::alloc::Global;
-use std::cmp::Ordering;
 use std::marker::Model;
 
 /// How many items a chunk holds.
@@ -109,6 +109,17 @@ impl<T> Chunk<T> {
         self.items.append(&mut other.items).unwrap()
     }
 
+    /// Moves all items to the end of a vector.
+    pub fn give(self, to: &mut Vec<T>) -> Result<(), NoMemory>
+    where
+        T: Drop,
+        ensures { OnOk result (to.new.items ≡ to.old.items ++ self) }
+    {
+        let Chunk { mut items } = self;
+        to.append(&mut items)?;
+        Ok(())
+    }
+
     /// Moves the upper half of a full chunk to an empty one.
     pub fn split(&mut self, upper: &mut Chunk<T>)
         requires full { length self.old ≡ 64 }
@@ -151,14 +162,22 @@ impl<T: Ord> Chunk<T> {
         search(&self.items, item)
     }
 
-    /// Whether there is a first item, and it is above this one.
-    pub fn begins_above(&self, item: &T) -> bool
-        ensures { result ≡ begins_above T.cmp self.now item.now }
+    /// Whether there is a first item, and the front doesn't have it.
+    pub fn begins_after<F: Front<T>>(&self, front: &F) -> bool
+        ensures { result ≡ begins_after (F.holds front.now) self.now }
     {
         match self.items.first() {
-            Some(first) => item.cmp(first).is_lt(),
+            Some(first) => !front.holds(first),
             None => false,
         }
+    }
+
+    /// Where a front of the items ends.
+    pub fn end_of<F: Front<T>>(&self, front: &F) -> usize
+        requires { IsStrictlySortedBy T.cmp self.now }
+        ensures { EndsAt (F.holds front.now) self.now result }
+    {
+        end_of(&self.items, front)
     }
 }
 

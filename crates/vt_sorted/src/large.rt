@@ -1,14 +1,16 @@
 // The large form: chunks in ascending order, and free ones.
 ghost use Rattle.std.specs.Prelude.{◌≡◌, ◌+◌, ◌<◌, ◌≤◌, [], ◌++◌, length, drop, suc, slice_get, slice_index_or, IfOk, IfErr, OnOk, OnErr, IsOk, not, vec_len, vec_capacity};
 ghost use Rattle.std.specs.Option.{option_copied};
-ghost use Rattle.std.specs.List.{insert, remove};
+ghost use Rattle.std.specs.List.{find, insert, remove};
+ghost use Rattle.std.specs.Ordering.{eq_by_cmp};
 ghost use Rattle.std.specs.List.Sorted.{IsStrictlySortedBy};
-ghost use Rattle.vt_sorted.specs.Ascending.{has, with_item, without_item, items_from};
-ghost use Rattle.vt_sorted.specs.Inside.Pieces.{joined, IsFilled, IsPlace, StandsIn, GoesIn};
+ghost use Rattle.vt_sorted.specs.Ascending.{has, with_item, without_item, items_after, items_from};
+ghost use Rattle.vt_sorted.specs.Inside.Pieces.{joined, IsFilled, IsPlace, IsEndPlace, StandsIn, GoesIn};
 
 use crate::chunk::{CHUNK, Chunk, HALF};
+use crate::front::UpTo;
 use crate::pieces::{fill, make_room, put, take};
-use crate::{NoMemory, Walk};
+use crate::{Front, NoMemory, Walk};
 use std::alloc::Global;
 use std::marker::Model;
 
@@ -17,7 +19,7 @@ const LIMIT: usize = 1 << 63;
 
 /// Chunks in ascending order, of which only the first may be empty, and free ones.
 #[derive(Debug, Drop)]
-pub struct Large<T: Ord> {
+pub(crate) struct Large<T: Ord> {
     used: Vec<Chunk<T>>,
     free: Vec<Chunk<T>>,
     count: usize,
@@ -68,6 +70,23 @@ impl<T: Ord> Large<T> {
         match locate(&self.used, item) {
             Ok((j, at)) => walk_at(&self.used, j, at),
             Err((j, at)) => walk_at(&self.used, j, at),
+        }
+    }
+
+    /// The items after a front, in order.
+    pub fn walk_after<F: Front<T>>(&self, front: &F) -> Walk<'_, T>
+        ensures { result ≡ items_after (F.holds front.now) self.now.items }
+    {
+        walk_past(&self.used, front)
+    }
+
+    /// The item that is equal in order. `None` where none is.
+    pub fn find(&self, item: &T) -> Option<&T>
+        ensures { option_copied result ≡ find (eq_by_cmp T.cmp item.now) self.now.items }
+    {
+        match locate(&self.used, item) {
+            Ok((j, at)) => self.used[j].get(at),
+            Err(_) => None,
         }
     }
 
@@ -128,6 +147,19 @@ impl<T: Ord + Drop> Large<T> {
             count,
             alloc,
         })
+    }
+
+    /// The items in order, in one vector. They are gone where memory runs out.
+    pub fn into_vec(self) -> Result<Vec<T>, NoMemory>
+        ensures { IfOk result (λ items. items.items ≡ self.items) }
+    {
+        let Large {
+            used,
+            count,
+            alloc,
+            ..
+        } = self;
+        flatten(alloc, used, count)
     }
 
     /// Adds the item. It answers false where it stood, and hands it back for want of memory.
@@ -226,15 +258,48 @@ fn place<T: Ord>(chunks: &[Chunk<T>], item: &T) -> usize
     requires filled { IsFilled chunks.now }
     ensures { IsPlace T.cmp chunks.now item.now result }
 {
+    end_place(chunks, &UpTo { item })
+}
+
+// The items after a front.
+fn walk_past<'a, T: Ord, F: Front<T>>(chunks: &'a [Chunk<T>], front: &F) -> Walk<'a, T>
+    requires some { 0 < length chunks.now }
+    requires ascends { IsStrictlySortedBy T.cmp (joined chunks.now) }
+    requires filled { IsFilled chunks.now }
+    ensures { result ≡ items_after (F.holds front.now) (joined chunks.now) }
+{
+    let j = end_place(chunks, front);
+    let at = chunks[j].end_of(front);
+    walk_at(chunks, j, at)
+}
+
+// The chunk in which a front ends.
+fn end_place<T: Ord, F: Front<T>>(chunks: &[Chunk<T>], front: &F) -> usize
+    requires some { 0 < length chunks.now }
+    requires ascends { IsStrictlySortedBy T.cmp (joined chunks.now) }
+    requires filled { IsFilled chunks.now }
+    ensures { IsEndPlace (F.holds front.now) chunks.now result }
+{
     let mut low = 0;
     let mut high = chunks.len();
     while low < high {
         let middle = low + (high - low) / 2;
-        if chunks[middle].begins_above(item) {
+        if chunks[middle].begins_after(front) {
             high = middle;
         } else {
             low = middle + 1;
         }
     }
     low.saturating_sub(1)
+}
+
+// All items of chunks, in one vector.
+fn flatten<T: Drop>(alloc: Global, chunks: Vec<Chunk<T>>, count: usize) -> Result<Vec<T>, NoMemory>
+    ensures { IfOk result (λ items. items.items ≡ joined chunks.items) }
+{
+    let mut items = Vec::with_capacity(alloc, count)?;
+    for chunk in chunks {
+        chunk.give(&mut items)?;
+    }
+    Ok(items)
 }

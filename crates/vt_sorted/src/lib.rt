@@ -3,18 +3,23 @@
 //! It stands on `vt_facts`. Read `specs/Room.antt` there, then `specs/Ascending.antt`.
 #![tactic(auto)]
 
-// A block of items, and many of them.
+// A front of the items, and the items to come.
+mod front;
+mod walk;
+// Items in chunks.
 mod chunk;
 mod large;
 mod pieces;
-mod walk;
 // The set.
 mod sorted;
 
 // Memory: what wanting it answers, and what can be copied.
 pub use vt_facts::{NoMemory, Plain};
-// A block of items, and many of them.
-pub use large::Large;
+// A front of the items, and the items to come.
+pub use front::Front;
 pub use walk::Walk;
 // The set.
 pub use sorted::Sorted;
+
+#[cfg(test)]
+mod tests;

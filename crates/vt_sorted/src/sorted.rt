@@ -1,12 +1,16 @@
 // An ordered set with room: few items in one vector, many in chunks.
-ghost use Rattle.std.specs.Prelude.{◌≡◌, ◌+◌, ◌≤◌, [], length, slice_get, IfOk, IfErr, OnOk, OnErr, IsOk, not, vec_len, vec_capacity};
+ghost use Rattle.std.specs.Prelude.{◌≡◌, ◌↔◌, ◌+◌, ◌≤◌, [], length, slice_get, IsTrue, IfOk, IfErr, OnOk, OnErr, IsOk, not, vec_len, vec_capacity};
 ghost use Rattle.std.specs.Option.{option_copied};
+ghost use Rattle.std.specs.List.{find};
 ghost use Rattle.std.specs.List.Sorted.{IsStrictlySortedBy};
+ghost use Rattle.std.specs.Ordering.{eq_by_cmp};
 ghost use Rattle.vt_sorted.specs.Inside.Held.{only};
-ghost use Rattle.vt_sorted.specs.Ascending.{has, with_item, without_item, items_from};
+ghost use Rattle.vt_sorted.specs.Ascending.{has, with_item, without_item, items_after, items_from, IsSetOf};
 
 use crate::chunk::{CHUNK, search};
-use crate::{Large, NoMemory, Walk};
+use crate::front::end_of;
+use crate::large::Large;
+use crate::{Front, NoMemory, Plain, Walk};
 use std::alloc::Global;
 use std::marker::Model;
 
@@ -69,6 +73,19 @@ impl<T: Ord> Sorted<T> {
         }
     }
 
+    pub fn is_empty(&self) -> bool
+        ensures { IsTrue result ↔ (self.now.items ≡ []) }
+    {
+        self.len() == 0
+    }
+
+    /// The items ascend. It does nothing.
+    pub fn ascend(&self)
+        ensures { IsStrictlySortedBy T.cmp self.now.items }
+    {
+        let _ = self.walk();
+    }
+
     /// The items in order.
     pub fn walk(&self) -> Walk<'_, T>
         ensures items { result ≡ self.now.items }
@@ -90,6 +107,33 @@ impl<T: Ord> Sorted<T> {
         }
     }
 
+    /// The items after a front, in order.
+    pub fn walk_after<F: Front<T>>(&self, front: &F) -> Walk<'_, T>
+        ensures { result ≡ items_after (F.holds front.now) self.now.items }
+    {
+        match &self.form {
+            Form::Few(items) => past_few(items, front),
+            Form::Many(large) => large[0].walk_after(front),
+        }
+    }
+
+    /// The item that is equal in order to this one. `None` is where none is.
+    pub fn find(&self, item: &T) -> Option<&T>
+        ensures { option_copied result ≡ find (eq_by_cmp T.cmp item.now) self.now.items }
+    {
+        match &self.form {
+            Form::Few(items) => find_few(items, item),
+            Form::Many(large) => large[0].find(item),
+        }
+    }
+
+    /// The first item. `None` is of the empty set alone.
+    pub fn first(&self) -> Option<&T>
+        ensures { option_copied result ≡ slice_get self.now.items 0 }
+    {
+        self.get(0)
+    }
+
     /// The item at a place, counted from 0. `None` is of a place past the end alone.
     pub fn get(&self, i: usize) -> Option<&T>
         ensures { option_copied result ≡ slice_get self.now.items i }
@@ -102,6 +146,15 @@ impl<T: Ord> Sorted<T> {
 }
 
 impl<T: Ord + Drop> Sorted<T> {
+    /// The set of these items. It needs memory to sort them.
+    pub fn from_vec(alloc: Global, items: Vec<T>) -> Result<Sorted<T>, NoMemory>
+        ensures { IfOk result (λ set. IsSetOf T.cmp items.items set.items) }
+    {
+        let mut items = items;
+        arrange(&mut items)?;
+        Sorted::from_ascending(alloc, items)
+    }
+
     /// The set of items that ascend already.
     pub fn from_ascending(alloc: Global, items: Vec<T>) -> Result<Sorted<T>, NoMemory>
         requires ascends { IsStrictlySortedBy T.cmp items.items }
@@ -115,6 +168,16 @@ impl<T: Ord + Drop> Sorted<T> {
             Form::Many(large)
         };
         Ok(Sorted { form, alloc })
+    }
+
+    /// The items in order. They are gone where memory runs out.
+    pub fn into_vec(self) -> Result<Vec<T>, NoMemory>
+        ensures { IfOk result (λ items. items.items ≡ self.items) }
+    {
+        match self.form {
+            Form::Few(items) => Ok(items),
+            Form::Many(large) => release(large),
+        }
     }
 
     /// Adds the item. It answers false where it stood, and hands it back for want of memory.
@@ -179,6 +242,47 @@ impl<T: Ord + Drop> Sorted<T> {
     }
 }
 
+impl<T: Ord + Plain> Sorted<T> {
+    /// A set of copies of the items.
+    pub fn copy(&self, alloc: Global) -> Result<Sorted<T>, NoMemory>
+        ensures { IfOk result (λ copy. copy.items ≡ self.now.items) }
+    {
+        self.ascend();
+        let copies = self.copies(alloc)?;
+        Sorted::from_ascending(alloc, copies)
+    }
+
+    // Copies of the items in order.
+    fn copies(&self, alloc: Global) -> Result<Vec<T>, NoMemory>
+        ensures { IfOk result (λ copies. copies.items ≡ self.now.items) }
+    {
+        let mut copies = Vec::with_capacity(alloc, self.len())?;
+        let mut walk = self.walk();
+        while let Some(item) = walk.next() {
+            copies.push(item.copy(alloc)?)?;
+        }
+        Ok(copies)
+    }
+}
+
+// Puts items in order and leaves out repeats.
+fn arrange<T: Ord + Drop>(items: &mut Vec<T>) -> Result<(), NoMemory>
+    ensures { OnOk result (IsSetOf T.cmp items.old.items items.new.items) }
+{
+    items.sort()?;
+    items.dedup();
+    Ok(())
+}
+
+// The items of a large set in a block of its own, in one vector.
+fn release<T: Ord + Drop>(held: Vec<Large<T>>) -> Result<Vec<T>, NoMemory>
+    requires { vec_len held ≡ 1 }
+    ensures { IfOk result (λ items. items.items ≡ (only held).items) }
+{
+    let mut held = held;
+    held.remove(0).into_vec()
+}
+
 // The large set of few items, in a block of its own. They leave the vector.
 fn hold<T: Ord + Drop>(
     alloc: Global,
@@ -224,5 +328,25 @@ fn walk_few<'a, T: Ord>(items: &'a [T], item: &T) -> Walk<'a, T>
     match search(items, item) {
         Ok(at) => Walk::over(&items[at..], &[]),
         Err(at) => Walk::over(&items[at..], &[]),
+    }
+}
+
+// The items of an ascending list after a front.
+fn past_few<'a, T: Ord, F: Front<T>>(items: &'a [T], front: &F) -> Walk<'a, T>
+    requires { IsStrictlySortedBy T.cmp items.now }
+    ensures { result ≡ items_after (F.holds front.now) items.now }
+{
+    let at = end_of(items, front);
+    Walk::over(&items[at..], &[])
+}
+
+// The item of an ascending list that is equal in order to this one.
+fn find_few<'a, T: Ord>(items: &'a [T], item: &T) -> Option<&'a T>
+    requires { IsStrictlySortedBy T.cmp items.now }
+    ensures { option_copied result ≡ find (eq_by_cmp T.cmp item.now) items.now }
+{
+    match search(items, item) {
+        Ok(at) => items.get(at),
+        Err(_) => None,
     }
 }

@@ -4,9 +4,9 @@ use Rattle.std.specs.Prelude.{flat_map, option_and_then, IfSome, Option, None}
 use Rattle.std.proofs.lemmas.List.{length-map}
 use Rattle.std.proofs.lemmas.List.Elements.{All-from_recursion, All-append, All-weaker}
 use Rattle.vt_json.specs.Shape.{◌>>=◌}
-use Rattle.vt_meta.specs.Base.{counts_of}
-use Rattle.vt_meta.specs.Metamodel.{Metamodel}
-use Rattle.vt_meta.specs.Declarations.{is_distinct}
+use Rattle.vt_model.specs.Base.{counts_of}
+use Rattle.vt_model.specs.Metamodel.{Metamodel}
+use Rattle.vt_model.specs.Words.{is_distinct}
 use Rattle.vt_query.specs.Narrow.{IsVariable, IsNarrowConstraint, IsNarrowBody, IsNarrowPattern, IsNarrow}
 use Rattle.vt_query.specs.Numbers.{IsType}
 use Rattle.vt_query.specs.WellFormed.{IsTerm, IsFormed, IsFormedBody, IsFormedPattern, IsWellFormed}
@@ -25,10 +25,11 @@ use Rattle.vt_vql.specs.Resolving.{all_of, type_of, param_of, declared_from, con
 use Rattle.vt_vql.specs.declared.tree.FileTree.{FileTree}
 use Rattle.vt_vql.specs.declared.tree.PatternTree.{PatternTree}
 use Rattle.vt_vql.specs.declared.tree.ParamTree.{ParamTree}
-use Rattle.vt_vql.proofs.MadeLemmas.{both, last_of_three, same_some, if_some, bind_some, then_some, map_some, made_each, made_keeps}
+use Rattle.vt_vql.proofs.MadeLemmas.{both, last_of_three, if_some, bind_some, then_some, map_some, made_each, made_keeps}
 use Rattle.vt_vql.proofs.ScopeLemmas.{constraints_grow, one_stands}
 use Rattle.vt_vql.proofs.StandsLemmas.{asked}
 use Rattle.vt_vql.proofs.ConstraintLemmas.{IsKnown, param_known, all_declared, constraints_narrow}
+use Rattle.std.proofs.lemmas.Option.{same_Some}
 
 -- ---- a pattern
 
@@ -74,13 +75,13 @@ parts_of meta p q e =
     let known = if_some (has_kinds meta found.0) (Some found.0) q found.2 in
     let params = bind_some (all_of (param_of meta) p.params) (λ qs. constraints_from meta (scope_of p.params) p.constraints >>= λ cs. Some (made_of p qs cs)) found.0 found.1 in
     let cs = bind_some (constraints_from meta (scope_of p.params) p.constraints) (λ cs. Some (made_of p params.0 cs)) found.0 params.2 in
-    let made : made_of p params.0 cs.0 ≡ found.0 = same_some _ _ cs.2 in
+    let made : made_of p params.0 cs.0 ≡ found.0 = same_Some _ _ cs.2 in
     record {
       params = params.0;
       cs = cs.0;
       all_params = params.1;
       all_constraints = cs.1;
-      made = made ∙ same_some found.0 q known.1;
+      made = made ∙ same_Some found.0 q known.1;
       distinct = last_of_three (has_few_constraints p) (has_few_variables p) _ tested.0;
       kinds = ap (has_kinds meta) made ∙ known.0;
     }

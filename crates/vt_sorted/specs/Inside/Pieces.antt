@@ -1,21 +1,22 @@
 -- A list in pieces.
-use Rattle.std.specs.Prelude.{◌≡◌, ℕ, suc, ◌<◌, ◌≤◌, ◌+◌, ◌-◌, ◌*◌, ◌^◌, max, Bool, true, false, List, [], ◌∷◌, ◌++◌, length, take, drop, insert, remove, slice_index_or, slice_set, ◌⊎◌}
+use Rattle.std.specs.Prelude.{◌≡◌, ℕ, suc, ◌<◌, ◌≤◌, ◌+◌, ◌-◌, ◌*◌, ◌^◌, max, Bool, true, false, not, List, [], ◌∷◌, ◌++◌, length, take, drop, insert, remove, slice_index_or, slice_set, slice_get, None, ◌⊎◌}
 use Rattle.std.specs.declared.cmp.Ordering.{Ordering}
 use Rattle.std.specs.declared.cmp.Ordering.TheVariants.{Less}
-use Rattle.std.specs.List.{AllByRecursion}
+use Rattle.std.specs.List.{AllByRecursion, find}
 use Rattle.std.specs.List.Sorted.{IsStrictlySortedBy}
-use Rattle.std.specs.Ordering.{is_lt}
+use Rattle.std.specs.Ordering.{eq_by_cmp}
 use Rattle.vt_sorted.specs.Ascending.{has, with_item, without_item, items_from}
+use Rattle.vt_sorted.specs.Inside.Places.{AllMeet, NoneMeet}
 
 -- the pieces end to end
 abbrev pub joined : {T : Type 0} → List (List T) → List T
 joined [] = []
 joined (c ∷ cs) = c ++ joined cs
 
--- whether there is a first item, and q is below it
-abbrev pub begins_above : {T : Type 0} → (T → T → Ordering) → List T → T → Bool
-begins_above R [] q = false
-begins_above R (x ∷ xs) q = is_lt (R q x)
+-- whether there is a first item, and it doesn't meet the test
+abbrev pub begins_after : {T : Type 0} → (T → Bool) → List T → Bool
+begins_after test [] = false
+begins_after test (x ∷ xs) = not (test x)
 
 -- how many items stand above the half of their piece
 abbrev pub above_half : {T : Type 0} → List (List T) → ℕ
@@ -44,6 +45,13 @@ pub record IsPlace {T : Type 0} (R : T → T → Ordering) (cs : List (List T)) 
   pub in_range : j < length cs
   pub below : AllBelow R (joined (take j cs)) q
   pub above : AllAbove R (joined (drop (suc j) cs)) q
+
+-- what meets the test and what doesn't: the front ends in piece j, and begins it where an earlier one is
+pub record IsEndPlace {T : Type 0} (test : T → Bool) (cs : List (List T)) (j : ℕ) : Type 0 where
+  pub in_range : j < length cs
+  pub before : AllMeet test (joined (take j cs))
+  pub begins : 0 < j → begins_after test (slice_index_or cs j []) ≡ false
+  pub after : NoneMeet test (joined (drop (suc j) cs))
 
 -- blocks with room for all pieces, used or free
 pub record HaveSpace (used used_room free free_room : ℕ) : Type 0 where
@@ -78,6 +86,7 @@ pub record StandsIn {T : Type 0} (R : T → T → Ordering) (cs : List (List T))
   pub in_range : j < length cs
   pub place : at < length (slice_index_or cs j [])
   pub stands : has R (joined cs) q ≡ true
+  pub found : find (eq_by_cmp R q) (joined cs) ≡ slice_get (slice_index_or cs j []) at
   pub added : with_item R (joined cs) q ≡ joined cs
   pub taken : joined (slice_set cs j (remove (slice_index_or cs j []) at)) ≡ without_item R (joined cs) q
   pub shorter : length (joined (slice_set cs j (remove (slice_index_or cs j []) at))) + 1 ≡ length (joined cs)
@@ -89,6 +98,7 @@ pub record GoesIn {T : Type 0} (R : T → T → Ordering) (cs : List (List T)) (
   pub in_range : j < length cs
   pub place : at ≤ length (slice_index_or cs j [])
   pub absent : has R (joined cs) q ≡ false
+  pub found : find (eq_by_cmp R q) (joined cs) ≡ None
   pub added : joined (slice_set cs j (insert (slice_index_or cs j []) at q)) ≡ with_item R (joined cs) q
   pub longer : length (joined (slice_set cs j (insert (slice_index_or cs j []) at q))) ≡ length (joined cs) + 1
   pub ascends : IsStrictlySortedBy R (joined (slice_set cs j (insert (slice_index_or cs j []) at q)))

@@ -70,7 +70,7 @@ found_spec 𝓤 𝓛 𝓜 𝓡 wired Y Z L LZ g d dd met md =
     let none : Good (ty_int w64) (vint w64 0) = (tt, record { fits = lit< tt }) in
     let full : Good (lone Whole.mir) (vstruct (filled E 0 v hv)) = as_fields (ty_int w64 ∷ τ E ∷ α E.al ∷ []) (vint w64 0 ∷ v ∷ hv ∷ []) (none, (good, (fits, tt))) in
     let lend : Lends 𝓛 (memory.whole E p x) (shown E p x) κ = Lends-first 𝓛 (lies_at (R E) full_share (p +ₚ value_at E) x) (fex Z.Denot (goes_back (R E) (P E) (token E.al) p)) (shown E p x) κ
-        (Lends-lies 𝓛 (R E) κ (p +ₚ value_at E) x (Shares-less 𝓛 (R E) Y.lives κ lives ((param_laws 0 Y L).shares 𝓛) x)) in
+    (Lends-lies 𝓛 (R E) κ (p +ₚ value_at E) x (Shares-less 𝓛 (R E) Y.lives κ lives ((param_laws 0 Y L).shares 𝓛) x)) in
     regoal ! (λ (ws : List Val). prop (WpFn 𝓤 𝓛.H 𝓣.C 𝓣.Λ f (ws ++ (values ++ [])) Ends)) is_room refl $
     regoal ! (λ (ws : List Val). prop (WpFn 𝓤 𝓛.H 𝓣.C 𝓣.Λ f (vacant_val hv b o ∷ (ws ++ [])) Ends)) is_v refl $
     keep ! (0 ∷ 1 ∷ 2 ∷ 3 ∷ 5 ∷ []) $ as_written ! (lone Whole.mir) b o $
