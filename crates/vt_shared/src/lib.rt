@@ -5,10 +5,10 @@
 #![tactic(auto)]
 
 // The pointer, and what its callers ask of it.
-mod pointer;
+mod owner;
 
 // The pointer, and what its callers ask of it.
-pub use pointer::Shared;
+pub use owner::Shared;
 
 #[cfg(test)]
 mod tests;
