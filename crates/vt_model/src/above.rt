@@ -79,10 +79,7 @@ fn above_row(alloc: Global, supers: &[List<usize>], class: usize) -> Result<List
 }
 
 // Which classes are above which, by the places of their supertypes.
-fn above_table(
-    alloc: Global,
-    supers: &[List<usize>],
-) -> Result<List<List<bool>>, NoMemory>
+fn above_table(alloc: Global, supers: &[List<usize>]) -> Result<List<List<bool>>, NoMemory>
     requires { AreThere supers.now }
     ensures { IfOk result (λ rows. rows ≡ above_table supers.now) }
 {
