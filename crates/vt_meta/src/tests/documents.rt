@@ -193,8 +193,13 @@ fn wide_class(alloc: Global, count: u32) -> Result<String, Fail> {
 }
 
 // A document with so many enums and a long one, so many classes and a wide one.
-fn sized(alloc: Global, counts: [u32; 4]) -> Result<String, Fail> {
-    let [enums, literals, classes, attributes] = counts;
+fn sized(
+    alloc: Global,
+    enums: u32,
+    literals: u32,
+    classes: u32,
+    attributes: u32,
+) -> Result<String, Fail> {
     let enums = items(alloc, "{\"name\":\"E", "\",\"literals\":[\"a\"]},", enums)?;
     let long = long_enum(alloc, literals)?;
     let classes = items(alloc, "{\"name\":\"C", "\"},", classes)?;
@@ -234,17 +239,17 @@ fn documents_have_their_answers(rt: HostRuntime) -> Result<(), Fail> {
 #[test]
 fn limits_are_kept_to_the_last_one(rt: HostRuntime) -> Result<(), Fail> {
     let alloc = rt.alloc();
-    for (counts, wanted) in [
-        ([1023, 1023, 1023, 4094], "read"),
-        ([1024, 0, 0, 0], "TooMany { place: 1025 }"),
-        ([0, 1024, 0, 0], "TooMany { place: 1025 }"),
-        ([0, 0, 1024, 0], "TooMany { place: 1025 }"),
-        ([0, 0, 0, 4095], "TooMany { place: 4097 }"),
+    for (enums, literals, classes, attributes, wanted) in [
+        (1023, 1023, 1023, 4094, "read"),
+        (1024, 0, 0, 0, "TooMany { place: 1025 }"),
+        (0, 1024, 0, 0, "TooMany { place: 1025 }"),
+        (0, 0, 1024, 0, "TooMany { place: 1025 }"),
+        (0, 0, 0, 4095, "TooMany { place: 4097 }"),
         // Classes are counted before enums.
-        ([1025, 0, 1024, 0], "TooMany { place: 1025 }"),
-        ([0, 0, 0, 69_998], "TooMany { place: 70000 }"),
+        (1025, 0, 1024, 0, "TooMany { place: 1025 }"),
+        (0, 0, 0, 69_998, "TooMany { place: 70000 }"),
     ] {
-        let text = sized(alloc, counts)?;
+        let text = sized(alloc, enums, literals, classes, attributes)?;
         assert_eq!(rt; answer(alloc, text.as_bytes())?.as_str(), wanted);
     }
     Ok(())
