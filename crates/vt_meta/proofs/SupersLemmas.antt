@@ -1,21 +1,23 @@
 -- The supertypes of a document's classes, by places and by numbers.
-use Rattle.std.proofs.Common.{◌≡◌, ℕ, ◌+◌, List, [], ◌∷◌, ◌++◌, length, map, drop, get_or, refl, sym, ap, subst, ◌∙◌, Bool, arith}
-use Rattle.std.specs.Prelude.{◌<◌, ◌||◌, All, position, Option, Some, None, unwrap_or}
+use Rattle.std.proofs.Common.{◌≡◌, ℕ, ◌+◌, List, [], ◌∷◌, ◌++◌, length, map, drop, get_or, refl, sym, ap, subst, ◌∙◌, Bool, true, arith}
+use Rattle.std.specs.Prelude.{◌<◌, ◌||◌, ◌↔◌, All, position, Option, Some, None, unwrap_or}
 use Rattle.std.specs.List.{list_any}
 use Rattle.std.proofs.lemmas.List.{append_assoc, at_drop_more, length-map}
 use Rattle.std.proofs.lemmas.List.Elements.{All-map}
+use Rattle.std.proofs.lemmas.List.Folds.{Any-from_list_any, list_any_at}
 use Rattle.vt_base.specs.declared.numbers.ClassId.{ClassId}
 use Rattle.vt_model.specs.Metamodel.{supers_of, is_within}
 use Rattle.vt_meta.specs.Declarations.{class_place, class_number, supers_in}
-use Rattle.vt_facts.specs.Names.{is_name}
-use Rattle.vt_meta.specs.Faults.{is_above_itself}
+use Rattle.vt_model.specs.Words.{is_name}
+use Rattle.vt_meta.specs.Faults.{is_above_itself, IsOnCycle}
 use Rattle.vt_meta.specs.Inside.Above.{supers_places}
 use Rattle.vt_model.specs.Above.{class_id, ids, supers_at, is_above_any, AreThere}
-use Rattle.vt_facts.proofs.MapLemmas.{map-map, list_any-map}
+use Rattle.vt_model.proofs.MapLemmas.{map-map, list_any-map}
 use Rattle.vt_meta.specs.declared.document.ClassDocument.{ClassDocument}
 use Rattle.vt_meta.specs.declared.document.MetamodelDocument.{MetamodelDocument}
-use Rattle.vt_facts.proofs.PositionLemmas.{IsAt, IsAt-position}
-use Rattle.vt_model.proofs.AboveLemmas.{supers_of-ids}
+use Rattle.vt_model.proofs.PositionLemmas.{IsAt, IsAt-position}
+use Rattle.vt_model.proofs.AboveLemmas.{supers_of-ids, there-ids}
+use Rattle.vt_model.proofs.IsaLemmas.{is_within_exact}
 
 module _ (document : MetamodelDocument) where
   abbrev place : List ℕ → ℕ
@@ -53,3 +55,25 @@ module _ (document : MetamodelDocument) where
 
   pub length_supers : (supers : List (List ℕ)) → supers ≡ supers_places document → length supers ≡ length document.classes
   length_supers supers is = ap length is ∙ length-supers_places
+
+  -- ---- classes that are their own supertypes
+
+  there_supers_in : All (All (λ (e : ClassId). e.0 < length document.classes)) (supers_in document)
+  there_supers_in = subst (λ n. All (All (λ (e : ClassId). e.0 < n)) (supers_in document)) length-supers_places
+      (subst (All (All (λ (e : ClassId). e.0 < length (supers_places document)))) ids_supers_places (there-ids (supers_places document) there_supers))
+
+  -- a class is above itself exactly where a path of supertypes leads from it back to it
+  pub above_itself-IsOnCycle : (c : ClassId) → (is_above_itself document c ≡ true) ↔ IsOnCycle document c
+  above_itself-IsOnCycle c = (there, back)
+    where
+      there : is_above_itself document c ≡ true → IsOnCycle document c
+      there is =
+          let at = Any-from_list_any (λ s. is_within (supers_in document) (length document.classes) s c) (supers_of (supers_in document) c) is in
+          let path = (is_within_exact (supers_in document) (length document.classes) there_supers_in at.1 c).0 at.4 in
+          (at.1, (path.0, ((at.0, at.2, at.3), path.1)))
+
+      back : IsOnCycle document c → is_above_itself document c ≡ true
+      back (e, (path, (first, rest))) =
+          let is : is_within (supers_in document) (length document.classes) e c ≡ true = (is_within_exact (supers_in document) (length document.classes) there_supers_in e c).1 (path, rest) in
+          list_any_at (λ s. is_within (supers_in document) (length document.classes) s c) (supers_of (supers_in document) c) first.0 e first.1
+          (subst (λ x. is_within (supers_in document) (length document.classes) x c ≡ true) (sym first.2) is)

@@ -3,7 +3,7 @@ use Rattle.std.specs.Prelude.{ℕ, ◌+◌, ◌&&◌, ◌||◌, List, [], ◌∷
 use Rattle.std.specs.List.{list_any}
 use Rattle.std.specs.Option.{option_map_or}
 use Rattle.vt_base.specs.declared.numbers.ClassId.{ClassId}
-use Rattle.vt_model.specs.Metamodel.{supers_of, is_within, feature_names}
+use Rattle.vt_model.specs.Metamodel.{supers_of, IsPath, is_within, feature_names}
 use Rattle.vt_meta.specs.Declarations.{is_kind_name, item_names, declared_names, class_place, kind_named, supers_in, opposite_in, answers}
 use Rattle.vt_facts.specs.Names.{is_name, is_distinct}
 use Rattle.vt_meta.specs.Built.{metamodel_of}
@@ -65,6 +65,10 @@ has_unknown_type document c =
 -- one of the class's supertypes is the class or below it
 abbrev pub is_above_itself : MetamodelDocument → ClassId → Bool
 is_above_itself document c = list_any (λ s. is_within (supers_in document) (length document.classes) s c) (supers_of (supers_in document) c)
+
+-- the same as a fact: a path of supertypes leads from the class back to it
+abbrev pub IsOnCycle : MetamodelDocument → ClassId → Type 0
+IsOnCycle document c = (e : ClassId) × ((path : List ClassId) × IsPath (supers_in document) c (e ∷ path) c)
 
 -- the opposite that a reference names isn't there, or doesn't answer
 abbrev pub lacks_opposite : MetamodelDocument → ClassDocument → ReferenceDocument → Bool

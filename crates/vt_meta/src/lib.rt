@@ -17,7 +17,7 @@ mod opposites;
 mod reader;
 mod resolved;
 mod types;
-// What holds of every metamodel that is read.
+// What holds of every metamodel that is read, and of documents.
 mod laws;
 #[cfg(test)]
 mod tests;
@@ -26,8 +26,8 @@ mod tests;
 pub use document::has_format_one;
 pub use fault::MetaFault;
 pub use reader::read_meta;
-// What holds of every metamodel that is read.
-pub use laws::read_is_sound;
+// What holds of every metamodel that is read, and of documents.
+pub use laws::{read_is_sound, super_cycle_is_a_path};
 // Metamodels and models, of the crate below.
 pub use vt_model::{
     AttrInfo, AttributeValue, Change, ClassInfo, EnumInfo, Feature, Given, GoneObject, Link,

@@ -66,6 +66,10 @@ value_order t u = ordering_then (nat_cmp t.object.0 u.object.0) (nat_cmp t.attri
 abbrev pub is_value_of : ObjId → AttrId → AttributeValue → Bool
 is_value_of o a t = t.object.0 == o.0 && t.attribute.0 == a.0
 
+-- the values of an object
+abbrev pub values_of : Model → ObjId → List AttributeValue
+values_of g o = filter (λ t. t.object.0 == o.0) g.values
+
 abbrev pub without_value : Model → ObjId → AttrId → Model
 without_value g o a = record g { values = filter (λ t. not (is_value_of o a t)) g.values }
 

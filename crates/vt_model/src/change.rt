@@ -2,6 +2,7 @@
 ghost use Rattle.std.specs.Prelude.{◌≡◌};
 ghost use Rattle.vt_model.specs.Storable.{IsGivable, GivesStorable};
 
+use thiserror::Error;
 use vt_base::Text;
 
 /// A value that a change gives to an attribute.
@@ -89,6 +90,60 @@ pub enum Change {
 }
 
 impl Change {
+    /// The same change, for one more owner. It takes no memory and can't fail.
+    pub fn share(&self) -> Change
+        ensures { result ≡ self.now }
+    {
+        match self {
+            Change::Create {
+                name,
+                class,
+                number,
+            } => Change::Create {
+                name: name.share(),
+                class: class.share(),
+                number: *number,
+            },
+            Change::Delete { name } => Change::Delete { name: name.share() },
+            Change::Set { name, attr, value } => Change::Set {
+                name: name.share(),
+                attr: attr.share(),
+                value: value.share(),
+            },
+            Change::Unset { name, attr } => Change::Unset {
+                name: name.share(),
+                attr: attr.share(),
+            },
+            Change::Link {
+                name,
+                reference,
+                target,
+            } => Change::Link {
+                name: name.share(),
+                reference: reference.share(),
+                target: target.share(),
+            },
+            Change::Unlink {
+                name,
+                reference,
+                target,
+            } => Change::Unlink {
+                name: name.share(),
+                reference: reference.share(),
+                target: target.share(),
+            },
+            Change::Move {
+                child,
+                parent,
+                reference,
+            } => Change::Move {
+                child: child.share(),
+                parent: parent.share(),
+                reference: reference.share(),
+            },
+        }
+    }
+
     /// So is what a change gives.
     pub fn gives_storable(&self)
         ensures { GivesStorable self.now }
@@ -100,31 +155,43 @@ impl Change {
 }
 
 /// Why a change is refused: the first of these that applies, in this order.
-#[derive(Clone, Copy, Debug, PartialEq, Eq)]
+#[derive(Clone, Copy, Debug, PartialEq, Eq, Error)]
 pub enum Refusal {
-    /// A named object never existed.
+    /// A named object never existed, as `b` in `delete b` where nothing was called so.
+    #[error("an object that is named never existed")]
     UnknownObject,
-    /// A named object was deleted.
+    /// A named object was deleted, as `b` in `delete b` after `delete b`.
+    #[error("an object that is named was deleted")]
     Gone,
-    /// No class has the name.
+    /// No class has the name, as `Boook` where there is a class `Book`.
+    #[error("no class has the name")]
     UnknownClass,
-    /// The class is abstract.
+    /// The class is abstract, so that it has no objects of its own.
+    #[error("the class is abstract")]
     AbstractClass,
     /// A live or deleted object has the name already.
+    #[error("a live or deleted object has the name already")]
     NameTaken,
-    /// The name begins with `_` and isn't `_` and the object's number.
+    /// The name begins with `_` and isn't `_` and the object's number, as `_8` for number 7.
+    #[error("the name begins with `_` and is not that of the object's number")]
     ReservedName,
-    /// The object's class has no such feature.
+    /// The object's class has no such feature, its own or inherited.
+    #[error("the object's class has no such feature")]
     UnknownFeature,
     /// A value is given to a reference, a link to an attribute, or a value of another kind; or an
     /// object is moved by what is no containment.
+    #[error("the feature takes no such value, or is no containment")]
     WrongKind,
     /// A text that is given to an attribute of an enum names no literal of it.
+    #[error("the text names no literal of the attribute's enum")]
     WrongValue,
     /// The target isn't of the class that the reference leads to.
+    #[error("the target is not of the class that the reference leads to")]
     WrongTarget,
     /// The link would make an object contain itself, directly or indirectly.
+    #[error("an object would contain itself")]
     ContainmentCycle,
     /// The object's number would be 1,048,576 or more.
+    #[error("the object's number would be 1048576 or more")]
     TooManyObjects,
 }

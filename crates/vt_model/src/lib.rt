@@ -4,7 +4,8 @@
 //! It stands on `vt_base`. Read `specs/Metamodel.antt` and `specs/Sound.antt`; then
 //! `specs/Model.antt`, `specs/Creating.antt`, `specs/Assigning.antt`, `specs/Linking.antt`,
 //! `specs/Containing.antt`, `specs/Deleting.antt`, `specs/Effect.antt` and
-//! `specs/Transaction.antt`; then `specs/Fits.antt`, `specs/Valid.antt` and `specs/Base.antt`.
+//! `specs/Transaction.antt`; then `specs/Storable.antt`, `specs/Fits.antt`, `specs/Valid.antt`,
+//! `specs/Kept.antt` and `specs/Base.antt`.
 //! `specs/Places.antt` and `specs/Above.antt` are for the reader of documents, in `vt_meta`.
 #![tactic(auto)]
 
@@ -17,6 +18,7 @@ mod places;
 // What a model holds, and the changes to one.
 mod change;
 mod model;
+mod plain;
 // What holds of every metamodel, and of every model that changes make.
 mod laws;
 

@@ -1,7 +1,8 @@
 //! What small metamodels answer.
 use crate::{Feature, Metamodel, read_meta};
+use std::alloc::Global;
 use std::test::Fail;
-use vt_base::{AttrId, ClassId, Kind, Names, ObjId, RefId};
+use vt_base::{ClassId, Names, ObjId};
 
 // Two classes, each with a feature `w` and a feature `to`.
 const RAIL: &str = r#"{"format":1,"uri":"http://rail","classes":[
@@ -9,6 +10,28 @@ const RAIL: &str = r#"{"format":1,"uri":"http://rail","classes":[
         "references":[{"name":"to","target":"Node","many":true}]},
     {"name":"Track","attributes":[{"name":"w","kind":"int"}],
         "references":[{"name":"from","target":"Node","many":true},{"name":"to","target":"Track","many":true}]}]}"#;
+
+// Each class; each attribute with its class; each reference with its class, its target, whether it
+// is many and a containment; for each class and a number that no class has, which of these it is or
+// is below; what each name stands for, as a class, as an enum, and in each class.
+const RAIL_ANSWERS: &str = r#"Node false
+Track false
+w 0 Int
+h 0 Int
+w 1 Int
+to 0 0 true false None
+from 1 0 true false None
+to 1 1 true false None
+100
+010
+001
+w None None a0 a2 -
+h None None a1 - -
+to None None r0 r2 -
+from None None - r1 -
+node None None - - -
+Node Some(ClassId(0)) None - - -
+"#;
 
 // Two enums, and classes of which some are below others: a book is an item, and both an item and a
 // shelf have a name.
@@ -22,155 +45,143 @@ const LIBRARY: &str = r#"{"format":1,"enums":[
             {"name":"next","target":"Book","opposite":"prior"},{"name":"prior","target":"Book","opposite":"next"}]},
     {"name":"Item","supers":["Named"],"attributes":[{"name":"pages","kind":"int"}]}]}"#;
 
-fn class_name(meta: &Metamodel, number: u16) -> Option<&str> {
-    Some(meta.class(ClassId(number))?.name.as_str())
+const LIBRARY_ANSWERS: &str = r#"Named true
+Shelf false
+Book false
+Item false
+name 0 Text
+genre 2 Enum(0)
+lent 2 Bool
+pages 3 Int
+books 1 2 true true Some(RefId(1))
+shelf 2 1 false false Some(RefId(0))
+next 2 2 false false Some(RefId(3))
+prior 2 2 false false Some(RefId(2))
+10000
+11000
+10110
+10010
+00001
+name None None a0 a0 a0 a0 -
+pages None None - - a3 a3 -
+genre None None - - a1 - -
+prior None None - - r3 - -
+books None None - r0 - - -
+Name None None - - - - -
+Genre None Some(0) - - - - -
+Binding None Some(1) - - - - -
+Book Some(ClassId(2)) None - - - - -
+string None None - - - - -
+"#;
+
+// The lists of a metamodel, one item a line.
+fn add_lists(alloc: Global, text: &mut String, meta: &Metamodel) -> Result<(), Fail> {
+    for c in 0..meta.class_count() {
+        let info = meta.class(ClassId(c)).ok_or("a class")?;
+        text.push_str(format!(in alloc;
+            "{} {}\n",
+            info.name.as_str(),
+            info.is_abstract
+        )?.as_str())?;
+    }
+    for info in meta.attributes() {
+        text.push_str(format!(in alloc;
+            "{} {} {:?}\n",
+            info.name.as_str(),
+            info.class.0,
+            info.kind
+        )?.as_str())?;
+    }
+    for info in meta.references() {
+        text.push_str(format!(in alloc;
+            "{} {} {} {} {} {:?}\n",
+            info.name.as_str(),
+            info.class.0,
+            info.target.0,
+            info.many,
+            info.containment,
+            info.opposite
+        )?
+        .as_str())?;
+    }
+    Ok(())
+}
+
+// Which of so many numbers of classes are which.
+fn add_marks(text: &mut String, meta: &Metamodel, count: u16) -> Result<(), Fail> {
+    for c in 0..count {
+        for d in 0..count {
+            text.push_str(if meta.isa(ClassId(c), ClassId(d)) {
+                "1"
+            } else {
+                "0"
+            })?;
+        }
+        text.push_str("\n")?;
+    }
+    Ok(())
+}
+
+// What a name stands for.
+fn add_name(
+    alloc: Global,
+    text: &mut String,
+    meta: &Metamodel,
+    name: &str,
+    count: u16,
+) -> Result<(), Fail> {
+    text.push_str(format!(in alloc;
+        "{name} {:?} {:?}",
+        meta.class_named(name),
+        meta.enum_named(name)
+    )?
+    .as_str())?;
+    for c in 0..count {
+        let found = match meta.feature(ClassId(c), name) {
+            Some(Feature::Attr(a)) => format!(in alloc; " a{}", a.0)?,
+            Some(Feature::Ref(r)) => format!(in alloc; " r{}", r.0)?,
+            None => String::from_str(alloc, " -")?,
+        };
+        text.push_str(found.as_str())?;
+    }
+    text.push_str("\n")?;
+    Ok(())
+}
+
+// All that a metamodel answers of so many numbers of classes.
+fn told(alloc: Global, meta: &Metamodel, names: &str, count: u16) -> Result<String, Fail> {
+    let mut text = String::new(alloc);
+    add_lists(alloc, &mut text, meta)?;
+    add_marks(&mut text, meta, count)?;
+    for name in names.lines() {
+        add_name(alloc, &mut text, meta, name, count)?;
+    }
+    Ok(text)
 }
 
 #[test]
 fn a_metamodel_answers_by_number_and_by_name(rt: HostRuntime) -> Result<(), Fail> {
-    let first = read_meta(rt.alloc(), RAIL.as_bytes())?;
-    let meta = first.share();
+    let alloc = rt.alloc();
+    let first = read_meta(alloc, RAIL.as_bytes())?;
+    let rail = first.share();
     drop(first);
-    assert_eq!(rt; meta.uri(), "http://rail");
+    assert_eq!(rt; rail.uri(), "http://rail");
+    assert_eq!(rt; (rail.attr_count(), rail.ref_count()), (3, 3));
     assert_eq!(rt;
-        (meta.class_count(), meta.attr_count(), meta.ref_count()),
-        (2, 3, 3)
+        told(alloc, &rail, "w\nh\nto\nfrom\nnode\nNode", 3)?.as_str(),
+        RAIL_ANSWERS
     );
-    for (number, name) in [(0, Some("Node")), (1, Some("Track")), (2, None)] {
-        assert_eq!(rt; class_name(&meta, number), name, "class {number}");
-    }
-    for (name, number) in [
-        ("Node", Some(ClassId(0))),
-        ("Track", Some(ClassId(1))),
-        ("node", None),
-        ("Nod", None),
-        ("int", None),
-        ("", None),
-    ] {
-        assert_eq!(rt; meta.class_named(name), number, "class {name}");
-    }
-    for (class, name, found) in [
-        (0, "w", Some(Feature::Attr(AttrId(0)))),
-        (0, "h", Some(Feature::Attr(AttrId(1)))),
-        (0, "to", Some(Feature::Ref(RefId(0)))),
-        (0, "from", None),
-        (1, "w", Some(Feature::Attr(AttrId(2)))),
-        (1, "h", None),
-        (1, "from", Some(Feature::Ref(RefId(1)))),
-        (1, "to", Some(Feature::Ref(RefId(2)))),
-        (2, "w", None),
-    ] {
-        assert_eq!(rt;
-            meta.feature(ClassId(class), name),
-            found,
-            "{name} of class {class}"
-        );
-    }
+    let library = read_meta(alloc, LIBRARY.as_bytes())?;
+    assert_eq!(rt; library.uri(), "");
+    let names = "name\npages\ngenre\nprior\nbooks\nName\nGenre\nBinding\nBook\nstring";
+    assert_eq!(rt; told(alloc, &library, names, 5)?.as_str(), LIBRARY_ANSWERS);
     Ok(())
 }
 
 #[test]
-fn features_say_what_the_document_says(rt: HostRuntime) -> Result<(), Fail> {
-    let meta = read_meta(rt.alloc(), RAIL.as_bytes())?;
-    let node = meta.class(ClassId(0)).ok_or("class 0")?;
-    assert!(rt; !node.is_abstract);
-    let weight = meta.attribute(AttrId(2)).ok_or("attribute 2")?;
-    assert_eq!(rt; weight.name.as_str(), "w");
-    assert_eq!(rt; (weight.class, weight.kind), (ClassId(1), Kind::Int));
-    assert!(rt; meta.attribute(AttrId(3)).is_none());
-    assert_eq!(rt; (meta.attributes().len(), meta.references().len()), (3, 3));
-    let from = meta.reference(RefId(1)).ok_or("reference 1")?;
-    assert_eq!(rt; from.name.as_str(), "from");
-    assert_eq!(rt; (from.class, from.target), (ClassId(1), ClassId(0)));
-    assert_eq!(rt;
-        (from.many, from.containment, from.opposite),
-        (true, false, None)
-    );
-    assert!(rt; meta.reference(RefId(3)).is_none());
-
-    let bare = read_meta(rt.alloc(), b"{\"format\":1,\"classes\":[]}")?;
-    assert_eq!(rt; bare.uri(), "");
-    assert_eq!(rt;
-        (bare.class_count(), bare.attr_count(), bare.ref_count()),
-        (0, 0, 0)
-    );
-    assert!(rt; bare.class(ClassId(0)).is_none());
-    Ok(())
-}
-
-#[test]
-fn a_class_is_below_itself_and_those_above_it(rt: HostRuntime) -> Result<(), Fail> {
+fn literals_have_names_and_numbers(rt: HostRuntime) -> Result<(), Fail> {
     let meta = read_meta(rt.alloc(), LIBRARY.as_bytes())?;
-    for (class, other, answer) in [
-        (0, 0, true),
-        (2, 2, true),
-        (1, 0, true),
-        (2, 3, true),
-        (3, 0, true),
-        (2, 0, true),
-        (0, 2, false),
-        (3, 2, false),
-        (0, 1, false),
-        (1, 2, false),
-        (2, 1, false),
-        (4, 4, true),
-        (4, 0, false),
-        (0, 4, false),
-    ] {
-        assert_eq!(rt;
-            meta.isa(ClassId(class), ClassId(other)),
-            answer,
-            "class {class} and class {other}"
-        );
-    }
-    Ok(())
-}
-
-#[test]
-fn a_class_has_the_features_of_those_above_it(rt: HostRuntime) -> Result<(), Fail> {
-    let meta = read_meta(rt.alloc(), LIBRARY.as_bytes())?;
-    for (class, name, found) in [
-        (0, "name", Some(Feature::Attr(AttrId(0)))),
-        (1, "name", Some(Feature::Attr(AttrId(0)))),
-        (2, "name", Some(Feature::Attr(AttrId(0)))),
-        (2, "pages", Some(Feature::Attr(AttrId(3)))),
-        (2, "genre", Some(Feature::Attr(AttrId(1)))),
-        (2, "prior", Some(Feature::Ref(RefId(3)))),
-        (1, "books", Some(Feature::Ref(RefId(0)))),
-        (3, "pages", Some(Feature::Attr(AttrId(3)))),
-        (0, "pages", None),
-        (3, "genre", None),
-        (3, "shelf", None),
-        (1, "pages", None),
-        (2, "books", None),
-        (2, "Name", None),
-        (2, "", None),
-        (4, "name", None),
-    ] {
-        assert_eq!(rt;
-            meta.feature(ClassId(class), name),
-            found,
-            "{name} of class {class}"
-        );
-    }
-    Ok(())
-}
-
-#[test]
-fn enums_and_literals_answer_by_number_and_by_name(rt: HostRuntime) -> Result<(), Fail> {
-    let meta = read_meta(rt.alloc(), LIBRARY.as_bytes())?;
-    for (name, number) in [
-        ("Genre", Some(0)),
-        ("Binding", Some(1)),
-        ("Book", None),
-        ("string", None),
-        ("", None),
-    ] {
-        assert_eq!(rt; meta.enum_named(name), number, "enum {name}");
-    }
-    assert_eq!(rt; meta.class_named("Genre"), None);
     for (info, literal, numbers) in [
-        ("Genre", "Novel", Some((0, 0))),
         ("Genre", "Poem", Some((0, 1))),
         ("Binding", "Novel", Some((1, 1))),
         ("Binding", "Genre", Some((1, 2))),
@@ -185,47 +196,7 @@ fn enums_and_literals_answer_by_number_and_by_name(rt: HostRuntime) -> Result<()
     }
     let (info, literal) = meta.literal_text(1, 2).ok_or("literal 2 of enum 1")?;
     assert_eq!(rt; (info.as_str(), literal.as_str()), ("Binding", "Genre"));
-    assert!(rt; meta.literal_text(0, 2).is_none());
-    assert!(rt; meta.literal_text(2, 0).is_none());
+    assert!(rt; meta.literal_text(0, 2).is_none() && meta.literal_text(2, 0).is_none());
     assert!(rt; meta.object_text(ObjId(0)).is_none());
-    Ok(())
-}
-
-#[test]
-fn kinds_and_opposites_say_what_the_document_says(rt: HostRuntime) -> Result<(), Fail> {
-    let meta = read_meta(rt.alloc(), LIBRARY.as_bytes())?;
-    assert!(rt; meta.class(ClassId(0)).ok_or("class 0")?.is_abstract);
-    for (number, class, kind) in [
-        (0, 0, Kind::Text),
-        (1, 2, Kind::Enum(0)),
-        (2, 2, Kind::Bool),
-        (3, 3, Kind::Int),
-    ] {
-        let info = meta.attribute(AttrId(number)).ok_or("an attribute")?;
-        assert_eq!(rt;
-            (info.class, info.kind),
-            (ClassId(class), kind),
-            "attribute {number}"
-        );
-    }
-    for (number, class, target, opposite) in [
-        (0, 1, 2, 1),
-        (1, 2, 1, 0),
-        (2, 2, 2, 3),
-        (3, 2, 2, 2),
-    ] {
-        let info = meta.reference(RefId(number)).ok_or("a reference")?;
-        assert_eq!(rt;
-            (info.class, info.target),
-            (ClassId(class), ClassId(target)),
-            "reference {number}"
-        );
-        assert_eq!(rt; info.opposite, Some(RefId(opposite)), "reference {number}");
-        assert_eq!(rt;
-            (info.many, info.containment),
-            (number == 0, number == 0),
-            "reference {number}"
-        );
-    }
     Ok(())
 }
