@@ -289,18 +289,24 @@ fn write_item(text: &mut List<u8>, later: bool, item: &str) -> Result<(), NoMemo
 
 // Adds the text of the live objects, in rising number, with the bracket that ends it.
 #[tactic(auto, using(crate::proofs::Dumped::Objects::items_first, crate::proofs::Dumped::Objects::items_last, crate::proofs::Dumped::Objects::item_absent, crate::proofs::TextLemmas::text_there))]
-fn write_objects(alloc: Global, store: &Store, text: &mut List<u8>) -> Result<(), NoMemory>
+fn write_objects(
+    alloc: Global,
+    store: &Store,
+    plan: &[List<RefId>],
+    text: &mut List<u8>,
+) -> Result<(), NoMemory>
+    requires plan { IsPlan store.now.meta (length store.now.meta.classes) plan.now }
     ensures { OnOk result (text.new ≡ text.old
         ++ items_text false (objects_data store.now.meta store.now.model store.now.model.live)) }
 {
     // It tells too that objects rise, up to below the next number.
-    let plan = plan::by_class(alloc, store.meta())?;
+    store.meta();
     let mut later = false;
     for number in 0..store.next_number() {
         let Some(class) = store.class_of(ObjId(number)) else {
             continue;
         };
-        let object = object_text(alloc, store, plan.as_slice(), ObjId(number), class)?;
+        let object = object_text(alloc, store, plan, ObjId(number), class)?;
         write_item(text, later, object.as_str())?;
         later = true;
     }
@@ -318,9 +324,10 @@ fn head_text(alloc: Global, next: u32) -> Result<String, AllocError>
 pub fn write_model(alloc: Global, store: &Store) -> Result<List<u8>, NoMemory>
     ensures { IfOk result (λ text. text ≡ dump store.now.meta store.now.model) }
 {
+    let plan = plan::by_class(alloc, store.meta())?;
     let head = head_text(alloc, store.next_number())?;
     let mut text = List::from_vec(head.into_bytes());
-    write_objects(alloc, store, &mut text)?;
+    write_objects(alloc, store, plan.as_slice(), &mut text)?;
     text.add(b'}')?;
     Ok(text)
 }

@@ -1,10 +1,12 @@
 // What is new in the models that documents make.
+ghost use Rattle.std.specs.Prelude.{◌≤◌, length};
+
 use super::dumps::PETS;
 use super::metamodel;
 use crate::read_model;
 use std::alloc::Global;
 use std::test::Fail;
-use vt_base::{AttrId, ClassId, Delta, NoMemory, RefId, Value};
+use vt_base::{AttrId, BaseDelta, ClassId, Delta, NoMemory, RefId, Value};
 
 // A wolf, which is the friend of a pet and of itself, and the pet.
 const WOLF_AND_PET: &str = concat!(
@@ -28,22 +30,44 @@ fn told(alloc: Global, delta: &Delta) -> Result<Told, NoMemory> {
     Ok((added, delta.removed.len()))
 }
 
+// What is told of all classes, then of all attributes, then of all references.
+fn all_told(
+    alloc: Global,
+    delta: &BaseDelta,
+    classes: u16,
+    attributes: u16,
+    references: u16,
+) -> Result<Vec<Told>, NoMemory>
+    requires classes { classes ≤ length delta.now.classes }
+    requires attributes { attributes ≤ length delta.now.attributes }
+    requires references { references ≤ length delta.now.references }
+{
+    let mut all = Vec::new(alloc);
+    for c in 0..classes {
+        all.push(told(alloc, delta.class(ClassId(c)))?)?;
+    }
+    for a in 0..attributes {
+        all.push(told(alloc, delta.attr(AttrId(a)))?)?;
+    }
+    for r in 0..references {
+        all.push(told(alloc, delta.reference(RefId(r)))?)?;
+    }
+    Ok(all)
+}
+
 #[test]
 fn all_rows_of_a_model_are_new(rt: HostRuntime) -> Result<(), Fail> {
     let alloc = rt.alloc();
     let meta = metamodel(alloc, PETS)?;
     let (store, delta) = read_model(alloc, &meta, WOLF_AND_PET.as_bytes())?;
     let meta = store.meta();
-    let mut all = Vec::new(alloc);
-    for c in 0..meta.class_count() {
-        all.push(told(alloc, delta.class(ClassId(c)))?)?;
-    }
-    for a in 0..meta.attr_count() {
-        all.push(told(alloc, delta.attr(AttrId(a)))?)?;
-    }
-    for r in 0..meta.ref_count() {
-        all.push(told(alloc, delta.reference(RefId(r)))?)?;
-    }
+    let all = all_told(
+        alloc,
+        &delta,
+        meta.class_count(),
+        meta.attr_count(),
+        meta.ref_count(),
+    )?;
     let all = format!(in alloc; "{all:?}")?;
     assert_eq!(rt; all.as_str(), concat!(
         // Animals, those with a name, pets, wolves.
