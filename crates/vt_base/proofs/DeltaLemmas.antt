@@ -2,9 +2,7 @@
 use Rattle.std.proofs.Common.{◌≡◌, ◌<◌, ℕ, zero, suc, length, Bool, true, false, not, ◌&&◌, ◌||◌, List, [], ◌∷◌, Option, Some, None, refl, sym, ap, subst, ◌∙◌, arith}
 use Rattle.std.specs.Prelude.{filter, fold, slice_get}
 use Rattle.std.specs.BTreeSet.{insert_key}
-use Rattle.std.specs.Ordering.{eq_by_cmp, is_eq, match_ordering}
-use Rattle.std.specs.Set.{is_member}
-use Rattle.std.specs.declared.cmp.Ordering.{Ordering}
+use Rattle.std.specs.Ordering.{eq_by_cmp, match_ordering}
 use Rattle.std.specs.declared.cmp.Ordering.TheVariants.{Less, Equal, Greater}
 use Rattle.std.proofs.lemmas.Cmp.{eq_by_cmp_equiv}
 use Rattle.std.proofs.lemmas.List.Kept.{IsStrictlySortedBy-filter}
@@ -13,7 +11,7 @@ use Rattle.vt_facts.proofs.OrderedLemmas.{IsStrictlySortedBy-insert_key}
 use Rattle.vt_base.specs.Order.{tuple_cmp}
 use Rattle.vt_base.specs.Rows.{Ascends, has_row}
 use Rattle.vt_base.specs.Base.{BaseRows}
-use Rattle.vt_base.specs.Deltas.{Change, without, net, applied, applied_at, applied_base, change_of, Fits, AreEach, HasCounts, AllAscend, IsNet, FitsBase, SameRows}
+use Rattle.vt_base.specs.Deltas.{without, net, applied, applied_at, applied_base, change_of, Fits, AllAscend, IsNet, FitsBase, SameRows}
 use Rattle.vt_base.specs.declared.delta.Delta.{Delta}
 use Rattle.vt_base.specs.declared.delta.BaseDelta.{BaseDelta}
 use Rattle.vt_base.specs.Inside.OrderLaws.{IsTotalOrder-tuple_cmp}
