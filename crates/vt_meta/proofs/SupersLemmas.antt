@@ -8,14 +8,14 @@ use Rattle.std.proofs.lemmas.List.Folds.{Any-from_list_any, list_any_at}
 use Rattle.vt_base.specs.declared.numbers.ClassId.{ClassId}
 use Rattle.vt_model.specs.Metamodel.{supers_of, is_within}
 use Rattle.vt_meta.specs.Declarations.{class_place, class_number, supers_in}
-use Rattle.vt_model.specs.Words.{is_name}
+use Rattle.vt_facts.specs.Names.{is_name}
 use Rattle.vt_meta.specs.Faults.{is_above_itself, IsOnCycle}
 use Rattle.vt_meta.specs.Inside.Above.{supers_places}
 use Rattle.vt_model.specs.Above.{class_id, ids, supers_at, is_above_any, AreThere}
-use Rattle.vt_model.proofs.MapLemmas.{map-map, list_any-map}
+use Rattle.vt_facts.proofs.MapLemmas.{map-map, list_any-map}
 use Rattle.vt_meta.specs.declared.document.ClassDocument.{ClassDocument}
 use Rattle.vt_meta.specs.declared.document.MetamodelDocument.{MetamodelDocument}
-use Rattle.vt_model.proofs.PositionLemmas.{IsAt, IsAt-position}
+use Rattle.vt_facts.proofs.PositionLemmas.{IsAt, IsAt-position}
 use Rattle.vt_model.proofs.AboveLemmas.{supers_of-ids, there-ids}
 use Rattle.vt_model.proofs.IsaLemmas.{is_within_exact}
 

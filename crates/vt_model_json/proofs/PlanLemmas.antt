@@ -16,7 +16,7 @@ use Rattle.vt_model.specs.declared.metamodel.ClassInfo.{ClassInfo}
 use Rattle.vt_model.specs.declared.metamodel.RefInfo.{RefInfo}
 use Rattle.vt_model.specs.declared.model.Object.{Object}
 use Rattle.vt_model.specs.declared.model.Link.{Link}
-use Rattle.vt_model.proofs.MemberLemmas.{Contains-from_filter, Contains-find}
+use Rattle.vt_facts.proofs.MemberLemmas.{Contains-from_filter, Contains-find}
 use Rattle.vt_graph.specs.Asked.{live_at, class_at}
 use Rattle.vt_store.proofs.Linking.Lists.{filter-none}
 use Rattle.vt_store.proofs.Linking.Live.{live_at_is}

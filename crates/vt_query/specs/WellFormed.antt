@@ -2,7 +2,7 @@
 use Rattle.std.specs.Prelude.{◌≡◌, ◌≢◌, ℕ, ◌<◌, ◌≤◌, [], length, map, count_by, slice_get, true, All, IfSome, IsSomeAnd}
 use Rattle.vt_base.specs.declared.numbers.PatternId.{PatternId}
 use Rattle.vt_model.specs.Metamodel.{Metamodel}
-use Rattle.vt_model.specs.Words.{is_distinct}
+use Rattle.vt_facts.specs.Names.{is_distinct}
 use Rattle.vt_query.specs.Numbers.{IsConstant, IsType, IsOver}
 use Rattle.vt_query.specs.Terms.{is_column}
 use Rattle.vt_query.specs.declared.program.Term.{Term}

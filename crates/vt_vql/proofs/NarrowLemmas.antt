@@ -3,10 +3,10 @@ use Rattle.std.proofs.Common.{ℕ, ◌≡◌, ◌≢◌, ◌≤◌, ◌&&◌, tr
 use Rattle.std.specs.Prelude.{flat_map, option_and_then, IfSome, Option, None}
 use Rattle.std.proofs.lemmas.List.{length-map}
 use Rattle.std.proofs.lemmas.List.Elements.{All-from_recursion, All-append, All-weaker}
-use Rattle.vt_json.specs.Shape.{◌>>=◌}
+use Rattle.vt_facts.specs.Parts.{◌>>=◌}
 use Rattle.vt_model.specs.Base.{counts_of}
 use Rattle.vt_model.specs.Metamodel.{Metamodel}
-use Rattle.vt_model.specs.Words.{is_distinct}
+use Rattle.vt_facts.specs.Names.{is_distinct}
 use Rattle.vt_query.specs.Narrow.{IsVariable, IsNarrowConstraint, IsNarrowBody, IsNarrowPattern, IsNarrow}
 use Rattle.vt_query.specs.Numbers.{IsType}
 use Rattle.vt_query.specs.WellFormed.{IsTerm, IsFormed, IsFormedBody, IsFormedPattern, IsWellFormed}
