@@ -1,4 +1,3 @@
 pub mod AnswerLemmas
 mod DueLemmas
-pub mod FetchLemmas
 pub mod NamedLemmas

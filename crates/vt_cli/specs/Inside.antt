@@ -1,4 +1,4 @@
--- Words of private contracts alone.
+-- No public clause cites a module below.
 pub mod Seen
 pub mod Prepared
 pub mod Printable

@@ -1,9 +1,9 @@
--- what is promised to callers: read these from the top
+-- words of public clauses; read them from the top
 pub mod Command
 pub mod Lines
 pub mod Refusals
 pub mod Lists
 pub mod Result
 pub mod Answer
--- words of private contracts
+-- words of private clauses alone
 pub mod Inside

@@ -8,7 +8,7 @@ ghost use Rattle.vt_model.specs.Sound.{IsSound};
 ghost use Rattle.vt_model.specs.Valid.{IsValid};
 ghost use Rattle.vt_query.specs.Narrow.{IsNarrow};
 ghost use Rattle.vt_cli.specs.Result.{file_limit, IsListed, IsMatched, IsRefused};
-ghost use Rattle.vt_cli.specs.Inside.Prepared.{IsOfFiles};
+ghost use Rattle.vt_cli.specs.Inside.Prepared.{IsJudged};
 ghost use Rattle.vt_cli.specs.Inside.Printable.{AllNamed, AllTablesNamed};
 ghost use Rattle.vt_cli.specs.Inside.Seen.{loaded_of};
 
@@ -135,7 +135,7 @@ fn lists<L: Ledger>(
     requires valid { IsValid store.now.meta store.now.model }
     requires narrow { IsNarrow (counts_of store.now.meta) program.now }
     ensures due { IfOk result (λ outcome. IsListed (loaded_of store.now) program.now outcome) }
-    ensures suits { IfOk result (λ outcome. IsOfFiles outcome.ending) }
+    ensures judged { IfOk result (λ outcome. IsJudged outcome.ending) }
 {
     narrow_rows_are_named();
     let tables = evaluate_directly(alloc, program, store, steps)?;
@@ -157,7 +157,7 @@ pub(crate) fn matches<L: Ledger>(
     requires small { length bytes.now ≤ file_limit }
     ensures due { IfOk result (λ outcome.
         IsMatched (loaded_of store.now) bytes.now outcome ⊎ IsRefused (loaded_of store.now) bytes.now outcome) }
-    ensures suits { IfOk result (λ outcome. IsOfFiles outcome.ending) }
+    ensures judged { IfOk result (λ outcome. IsJudged outcome.ending) }
 {
     match read_queries(alloc, store.meta(), bytes) {
         Ok(program) => lists(alloc, store, &program, steps),

@@ -4,11 +4,11 @@ use Rattle.vt_grammar.specs.declared.lexeme.Lexeme.{Lexeme}
 use Rattle.vt_grammar.specs.Grammar.{Grammar, nothing, token, seq, alt, star, made, balanced}
 use Rattle.vt_grammar.specs.Reading.{is_empty, is_decided, read}
 use Rattle.vt_grammar.proofs.Exact.{Exact}
+use Rattle.vt_facts.proofs.BoolLemmas.{and_left, and_right, not_true}
 use Rattle.vt_grammar.proofs.ExactLemmas.{exact_nothing, exact_one, exact_made, exact_seq}
 use Rattle.vt_grammar.proofs.ChoiceLemmas.{exact_alt}
 use Rattle.vt_grammar.proofs.RepetitionLemmas.{exact_many}
 use Rattle.vt_grammar.proofs.BalancedLemmas.{exact_balanced}
-use Rattle.vt_facts.proofs.BoolLemmas.{and_left, and_right, not_true}
 
 -- by induction on the grammar
 pub exact : {A : Type 0} (g : Grammar A) → is_decided g ≡ true → (ls : List Lexeme) → Exact g ls (read g ls)

@@ -1,11 +1,11 @@
--- What is written or read front by front.
+-- Bytes that were written or read piece after piece.
 use Rattle.std.proofs.Common.{ℕ, ◌+◌, ◌-◌, ◌≤◌, List, ◌++◌, take, drop, length, arith, length-append}
-use Rattle.std.proofs.KnownBytes.{Appends-trans, Consumes-trans}
 use Rattle.std.proofs.Math.Seq.{take-add}
 use Rattle.std.proofs.lemmas.List.{take_rest, length-take}
 use Rattle.std.specs.Prelude.{Option}
 use Rattle.std.specs.Io.KnownBytes.{Appends, Consumes}
 use Rattle.vt_outside.specs.Inside.Reading.{TakesAtMost}
+use Rattle.std.proofs.KnownBytes.{Appends-trans, Consumes-trans}
 
 -- a front of the piece was written, and then a front of the rest
 pub written_on : (old mid new : Option (List ℕ)) (piece : List ℕ) (a b : ℕ) → Appends old mid (take a piece) → Appends mid new (take b (take (length piece - a) (drop a piece))) → Appends old new (take (a + b) piece)

@@ -1,2 +1,2 @@
--- Words of private contracts alone.
+-- No public clause cites a module below.
 pub mod Reading

@@ -1,8 +1,8 @@
--- what is promised to callers: read these from the top
+-- words of public clauses; read them from the top
 pub mod Faults
 pub mod Shelf
 pub mod Sink
 pub mod Memory
 pub mod Device
--- words of private contracts
+-- words of private clauses alone
 pub mod Inside

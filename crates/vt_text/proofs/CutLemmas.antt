@@ -16,7 +16,7 @@ use Rattle.vt_text.proofs.WordLemmas.{sound-word, numeral_exact, sound-number}
 use Rattle.vt_text.proofs.StringLemmas.{string_sound, sound-string, string_exact}
 use Rattle.vt_text.proofs.CommentLemmas.{IsOpen, comment_exact}
 use Rattle.vt_text.proofs.MarkLemmas.{opens_comment_is, no_long_mark, sound-mark}
-use Rattle.vt_facts.proofs.BoolLemmas.{not_true, or_none}
+use Rattle.vt_facts.proofs.BoolLemmas.{or_none, not_true}
 use Rattle.vt_facts.proofs.NumberLemmas.{equal_numbers}
 
 -- All pieces.

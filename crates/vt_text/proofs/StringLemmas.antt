@@ -5,9 +5,9 @@ use Rattle.vt_text.specs.Lexicon.{is_plain, escaped, Writes}
 use Rattle.vt_text.specs.Lexicon.Writes.{nothing, plain, escape}
 use Rattle.vt_text.specs.Inside.Scan.{piece_up_to, string_end, plus}
 use Rattle.vt_text.specs.declared.token.TokenKind.TheVariants.{Quoted}
-use Rattle.vt_facts.proofs.NumberLemmas.{equal_numbers}
+use Rattle.vt_facts.proofs.BoolLemmas.{or_none, not_true}
 use Rattle.vt_text.proofs.FrontLemmas.{Sound}
-use Rattle.vt_facts.proofs.BoolLemmas.{not_true, or_none}
+use Rattle.vt_facts.proofs.NumberLemmas.{equal_numbers}
 
 pub record IsString (bytes : List ℕ) (n : ℕ) : Type 0 where
   pub inner : List ℕ
