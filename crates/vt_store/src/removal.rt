@@ -38,7 +38,7 @@ impl Store {
     }
 
     /// A live object is deleted, with all that is in it.
-    #[tactic(auto, using(crate::proofs::StoreLemmas::valid_made))]
+    #[tactic(auto, using(crate::proofs::StoreLemmas::valid_deleted))]
     pub fn delete(&mut self, alloc: Global, name: &Text) -> Result<Edit, StoreFault>
         ensures made { OnOk result (effect self.old.meta self.old.model (change.Delete name.now) ≡ Ok self.new.model) }
         ensures refused { (why : Refusal) → result ≡ Err (fault.Refused why)

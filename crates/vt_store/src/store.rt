@@ -242,6 +242,7 @@ impl Store {
         ensures room { IfOk result (λ e. KeepsRoomOf self.old.model self.old.places (e.waiting ++ self.new.places)) }
         ensures kept { OnErr result (KeepsRoomOf self.old.model self.old.places self.new.places) }
     {
+        value.is_givable();
         let asked = set_asked(&self.graph, name, attribute, value)?;
         let edit = self.assign(alloc, asked)?;
         Ok(edit)

@@ -15,5 +15,5 @@ make-requires-clause-valid c =
     let s = c.self.inside.graph in
     let asked = c.in_ok-asked.asked in
     subst (λ (h : Held). (after : Model) → link_effect h.meta h.model asked ≡ Ok after → IsValid h.meta after) c.self.view_is
-    (λ after made. valid_made s.meta s.model after (change.Link c.args.name.now c.args.reference.now c.args.target.now) c.self.invariant.0 c.self.invariant.1
+    (λ after made. valid_made s.meta s.model after (change.Link c.args.name.now c.args.reference.now c.args.target.now) c.self.invariant.0 c.self.invariant.1 tt
     (link_made s.meta s.model c.args.name.now c.args.reference.now c.args.target.now asked c.in_ok-asked.ensures.asked c.in_ok-asked.ensures.passes ∙ made))

@@ -15,5 +15,5 @@ make-requires-clause-valid c =
     let s = c.self.inside.graph in
     let asked = c.in_ok-asked.asked in
     subst (λ (h : Held). (after : Model) → link_effect h.meta h.model asked ≡ Ok after → IsValid h.meta after) c.self.view_is
-    (λ after made. valid_made s.meta s.model after (change.Move c.args.child.now c.args.parent.now c.args.reference.now) c.self.invariant.0 c.self.invariant.1
+    (λ after made. valid_made s.meta s.model after (change.Move c.args.child.now c.args.parent.now c.args.reference.now) c.self.invariant.0 c.self.invariant.1 tt
     (move_made s.meta s.model c.args.child.now c.args.parent.now c.args.reference.now asked c.in_ok-asked.ensures.asked c.in_ok-asked.ensures.passes ∙ made))

@@ -11,4 +11,4 @@ pub assign-requires-clause-valid : goal.assign-requires-clause-valid
 assign-requires-clause-valid c =
     let asked = c.in_ok-asked.asked in
     subst (λ (s : Held). IsValid s.meta (with_default_value s.model asked.object asked.attribute asked.value)) c.self.view_is
-    (valid_made _ _ _ (change.Set c.args.name.now c.args.attribute.now c.args.value.now) c.self.invariant.0 c.self.invariant.1 c.in_ok-asked.ensures.made)
+    (valid_made _ _ _ (change.Set c.args.name.now c.args.attribute.now c.args.value.now) c.self.invariant.0 c.self.invariant.1 c.is_givable.ensures c.in_ok-asked.ensures.made)

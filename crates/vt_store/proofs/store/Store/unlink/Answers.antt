@@ -14,6 +14,6 @@ unmake-requires c =
     let asked = c.in_ok-asked.asked in
     record {
       valid = subst (λ (h : Held). IsValid h.meta (unlinked h.meta h.model asked)) c.self.view_is
-          (valid_made s.meta s.model (unlinked s.meta s.model asked) (change.Unlink c.args.name.now c.args.reference.now c.args.target.now) c.self.invariant.0 c.self.invariant.1
+          (valid_made s.meta s.model (unlinked s.meta s.model asked) (change.Unlink c.args.name.now c.args.reference.now c.args.target.now) c.self.invariant.0 c.self.invariant.1 tt
           (unlink_made s.meta s.model c.args.name.now c.args.reference.now c.args.target.now asked c.in_ok-asked.ensures.asked c.in_ok-asked.ensures.passes));
     }
