@@ -70,9 +70,9 @@ AllGive-settings : (meta : Metamodel) → ((e l : ℕ) → IsUtf8 (literal_name 
     → ((t : AttributeValue) → Contains values t → IsStorable t.value) → AllGive (map (setting meta g) values)
 AllGive-settings meta texts g [] held = tt
 AllGive-settings meta texts g (t ∷ values) held = (
-    gives-value meta texts (name_of g t.object) (attribute_name meta t.attribute) t.value (held t (Contains-head t values)),
-    AllGive-settings meta texts g values (λ u there. held u (Contains-behind t u values there)),
-  )
+  gives-value meta texts (name_of g t.object) (attribute_name meta t.attribute) t.value (held t (Contains-head t values)),
+  AllGive-settings meta texts g values (λ u there. held u (Contains-behind t u values there)),
+)
 
 -- changes that are made keep a model valid
 IsValid-Makes : (meta : Metamodel) (g after : Model) (cs : List Change) → IsSound meta → IsValid meta g → AllGive cs → Makes meta g cs after → IsValid meta after

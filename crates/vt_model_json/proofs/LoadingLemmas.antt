@@ -4,11 +4,11 @@ use Rattle.std.specs.Prelude.{◌&&◌, nat_le, if◌then◌else◌, unwrap_or}
 use Rattle.std.proofs.lemmas.Bool.{leb-true}
 use Rattle.serde_json.specs.Data.{Data}
 use Rattle.vt_json.specs.Shape.{has_only, optional, required, list_of, whole_number}
+use Rattle.vt_facts.specs.Parts.{◌>>=◌}
 use Rattle.vt_meta.specs.Document.{has_format_one}
 use Rattle.vt_model_json.specs.ModelDocument.{rise, above_all, with_next, object_shape, document_shape}
 use Rattle.vt_model_json.specs.declared.document.ObjectDocument.{ObjectDocument}
 use Rattle.vt_model_json.specs.declared.document.ModelDocument.{ModelDocument}
-use Rattle.vt_facts.specs.Parts.{◌>>=◌}
 
 -- both tests hold: the first
 pub left : (a b : Bool) → (a && b) ≡ true → a ≡ true

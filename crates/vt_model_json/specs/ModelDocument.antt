@@ -3,6 +3,7 @@ use Rattle.std.specs.Prelude.{ℕ, ◌+◌, ◌&&◌, List, [], ◌∷◌, codes
 use Rattle.serde_json.specs.Data.{Data, null, boolean, number, string, array, object}
 use Rattle.serde_json.specs.Find.{as_str, as_i64}
 use Rattle.vt_json.specs.Shape.{has_only, required, defaulted, optional, list_of, entries_of, whole_number}
+use Rattle.vt_facts.specs.Parts.{◌>>=◌}
 use Rattle.vt_json.specs.Names.{object_name}
 use Rattle.vt_meta.specs.Document.{has_format_one}
 use Rattle.vt_model.specs.declared.change.Given.{Given}
@@ -10,7 +11,6 @@ use Rattle.vt_model.specs.declared.change.Given.TheVariants as given
 use Rattle.vt_model_json.specs.declared.document.Entry.{Entry}
 use Rattle.vt_model_json.specs.declared.document.ObjectDocument.{ObjectDocument}
 use Rattle.vt_model_json.specs.declared.document.ModelDocument.{ModelDocument}
-use Rattle.vt_facts.specs.Parts.{◌>>=◌}
 
 -- ---- objects
 

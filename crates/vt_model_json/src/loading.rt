@@ -11,56 +11,37 @@ ghost use Rattle.vt_model_json.specs.ModelDocument.{rise, above_all};
 ghost use Rattle.vt_model_json.specs.Loading.{creations, assignment, assignments, linkings, changes_of, loaded, finished, judged, IsFaultOf};
 ghost use Rattle.vt_model_json.specs.Difference.{IsFromEmpty};
 ghost use Rattle.vt_model_json.specs.Inside.Stops.{IsStopOf};
-ghost use Rattle.vt_model_json.specs.declared.loading.ModelFault.TheVariants as fault;
 
 use crate::difference::from_empty;
 use crate::document::{Entry, ModelDocument, ObjectDocument};
-use std::alloc::{AllocError, AllocFailed, Global};
-use thiserror::Error;
+use std::alloc::Global;
 use vt_base::{BaseDelta, List, NoMemory, Text};
 use vt_json::{JsonFault, ObjectName, Shape, ShapeFault, parse};
 use vt_meta::{Change, Metamodel, Refusal};
 use vt_store::{Store, StoreFault};
 
 /// Why a model document is refused.
-#[derive(Clone, Copy, Debug, PartialEq, Eq, Error)]
+#[derive(Clone, Copy, Debug, PartialEq, Eq)]
 pub enum ModelFault {
-    /// The bytes are no JSON text, as `[1,]`.
-    #[error("the bytes are no JSON text, as `[1,]` is none")]
+    /// The bytes are no JSON text.
     NotJson,
     /// A key that isn't listed, a key that is missing, a value of another form, or numbers that
     /// don't rise.
-    #[error("a key is missing or is none of a model's, a value has another form, as `1` where a text belongs, or the numbers don't rise")]
     BadShape,
     /// The document has its shape, and the change with this place in its list, counted from 0, is
     /// the first that is refused.
-    #[error("of the document's changes, counted from 0, the one at {index} is the first that is refused: {why:?}")]
     Item { index: u64, why: Refusal },
     /// Memory ran out. It may stand for any other answer.
-    #[error("memory ran out before the model was made")]
     NoMemory,
 }
 
 impl From<NoMemory> for ModelFault {
+    ghost use Rattle.std.specs.Prelude.{◌≡◌};
+    ghost use Rattle.vt_model_json.specs.declared.loading.ModelFault.TheVariants as fault;
+
     ghost from_gives = { λ _ e. e ≡ fault.NoMemory };
 
     fn from(_: NoMemory) -> ModelFault {
-        ModelFault::NoMemory
-    }
-}
-
-impl From<AllocError> for ModelFault {
-    ghost from_gives = { λ _ e. e ≡ fault.NoMemory };
-
-    fn from(_: AllocError) -> ModelFault {
-        ModelFault::NoMemory
-    }
-}
-
-impl<T: Drop> From<AllocFailed<T>> for ModelFault {
-    ghost from_gives = { λ _ e. e ≡ fault.NoMemory };
-
-    fn from(_: AllocFailed<T>) -> ModelFault {
         ModelFault::NoMemory
     }
 }
