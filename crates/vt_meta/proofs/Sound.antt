@@ -5,7 +5,7 @@ pub mod Faultless
 pub mod Kinds
 pub mod Answered
 pub mod Opposites
-use Rattle.std.proofs.Common.{◌≡◌, ℕ, List, length, refl, ap, subst, ◌∙◌, arith, true}
+use Rattle.std.proofs.Common.{◌≡◌, ℕ, ◌+◌, List, length, refl, sym, ap, subst, ◌∙◌, arith, true}
 use Rattle.std.specs.Prelude.{◌<◌, All, map, slice_get, Option, Some, None, Ok}
 use Rattle.std.proofs.lemmas.Bool.{not-false}
 use Rattle.std.proofs.lemmas.List.{length-map}
@@ -31,6 +31,7 @@ use Rattle.vt_model.specs.declared.metamodel.AttrInfo.{AttrInfo}
 use Rattle.vt_model.specs.declared.metamodel.RefInfo.{RefInfo}
 use Rattle.vt_model.proofs.SearchLemmas.{slice_get-from_map, slice_get-below}
 use Rattle.vt_meta.specs.Inside.Literals.{HasLiterals}
+use Rattle.vt_model.proofs.AboveLemmas.{there-ids}
 use Rattle.vt_meta.proofs.BuildingLemmas.{attributes_below, references_below}
 use Rattle.vt_meta.proofs.SupersLemmas.{length-supers_places, place_below, there_supers, ids_supers_places}
 use Rattle.vt_meta.proofs.Sound.Shapes.{HasLiterals-document_shape}
@@ -70,6 +71,9 @@ module _ (document : MetamodelDocument) where
   same_count : count ≡ length document.classes
   same_count = length-map document.classes class_info
 
+  same_from : 0 + length document.classes ≡ count
+  same_from = omega (arith, same_count)
+
   one_list-metamodel_of : length (supers_in document) ≡ count
   one_list-metamodel_of = length-map document.classes (λ c. map (class_number document) c.supers) ∙ sym same_count
 
@@ -82,16 +86,16 @@ module _ (document : MetamodelDocument) where
 
   owners-metamodel_of : All (λ (a : AttrInfo). a.class.0 < count) (metamodel_of document).attributes
   owners-metamodel_of = All-map (λ (a : AttrInfo). a.class.0 < count) (attr_info document) (attributes_from 0 document.classes)
-      (subst (λ n. All (λ (d : Declared AttributeDocument). d.class.0 < n) (attributes_from 0 document.classes)) (sym same_count) (attributes_below 0 document.classes))
+      (subst (λ n. All (λ (d : Declared AttributeDocument). d.class.0 < n) (attributes_from 0 document.classes)) same_from (attributes_below 0 document.classes))
 
   sources-metamodel_of : All (λ (r : RefInfo). r.class.0 < count) (metamodel_of document).references
   sources-metamodel_of = All-map (λ (r : RefInfo). r.class.0 < count) (ref_info document) (references_from 0 document.classes)
-      (subst (λ n. All (λ (d : Declared ReferenceDocument). d.class.0 < n) (references_from 0 document.classes)) (sym same_count) (references_below 0 document.classes))
+      (subst (λ n. All (λ (d : Declared ReferenceDocument). d.class.0 < n) (references_from 0 document.classes)) same_from (references_below 0 document.classes))
 
   -- where something declares a reference there is a class
   targets-metamodel_of : All (λ (r : RefInfo). r.target.0 < count) (metamodel_of document).references
   targets-metamodel_of = All-map (λ (r : RefInfo). r.target.0 < count) (ref_info document) (references_from 0 document.classes)
-      (All-weaker (λ (d : Declared ReferenceDocument). d.class.0 < length document.classes) (λ (d : Declared ReferenceDocument). (class_number document d.feature.target).0 < count)
+      (All-weaker (λ (d : Declared ReferenceDocument). d.class.0 < 0 + length document.classes) (λ (d : Declared ReferenceDocument). (class_number document d.feature.target).0 < count)
       (λ d below. subst (λ n. (class_number document d.feature.target).0 < n) (sym same_count) (place_below document (omega (arith, below)) d.feature.target))
       (references_from 0 document.classes) (references_below 0 document.classes))
 
@@ -112,8 +116,9 @@ module _ (document : MetamodelDocument) where
         features = features-metamodel_of fine;
       }
 
-pub sound_document : (document : MetamodelDocument) → HasLiterals document → first_fault document ≡ None → IsSound (metamodel_of document)
-sound_document = IsSound-metamodel_of
+-- the same of a document that is another one
+pub sound_document : (resolved document : MetamodelDocument) → resolved ≡ document → HasLiterals document → first_fault resolved ≡ None → IsSound (metamodel_of resolved)
+sound_document resolved document same literals none = IsSound-metamodel_of resolved (subst HasLiterals (sym same) literals) none
 
 -- what bytes spell is sound
 pub IsSound-meta_of : (bytes : List ℕ) (meta : Metamodel) → meta_of bytes ≡ Ok meta → IsSound meta

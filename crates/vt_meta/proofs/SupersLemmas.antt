@@ -64,16 +64,17 @@ module _ (document : MetamodelDocument) where
 
   -- a class is above itself exactly where a path of supertypes leads from it back to it
   pub above_itself-IsOnCycle : (c : ClassId) → (is_above_itself document c ≡ true) ↔ IsOnCycle document c
-  above_itself-IsOnCycle c = (there, back)
+  above_itself-IsOnCycle c = (to_path, from_path)
     where
-      there : is_above_itself document c ≡ true → IsOnCycle document c
-      there is =
+      to_path : is_above_itself document c ≡ true → IsOnCycle document c
+      to_path is =
           let at = Any-from_list_any (λ s. is_within (supers_in document) (length document.classes) s c) (supers_of (supers_in document) c) is in
-          let path = (is_within_exact (supers_in document) (length document.classes) there_supers_in at.1 c).0 at.4 in
-          (at.1, (path.0, ((at.0, at.2, at.3), path.1)))
+          let more = (is_within_exact (supers_in document) (length document.classes) there_supers_in at.1 c).0 at.4 in
+          record { above = at.1; first = (at.0, at.2, at.3); path = more.0; back = more.1 }
 
-      back : IsOnCycle document c → is_above_itself document c ≡ true
-      back (e, (path, (first, rest))) =
-          let is : is_within (supers_in document) (length document.classes) e c ≡ true = (is_within_exact (supers_in document) (length document.classes) there_supers_in e c).1 (path, rest) in
-          list_any_at (λ s. is_within (supers_in document) (length document.classes) s c) (supers_of (supers_in document) c) first.0 e first.1
+      from_path : IsOnCycle document c → is_above_itself document c ≡ true
+      from_path o =
+          let first = o.first in
+          let is : is_within (supers_in document) (length document.classes) o.above c ≡ true = (is_within_exact (supers_in document) (length document.classes) there_supers_in o.above c).1 (o.path, o.back) in
+          list_any_at (λ s. is_within (supers_in document) (length document.classes) s c) (supers_of (supers_in document) c) first.0 o.above first.1
           (subst (λ x. is_within (supers_in document) (length document.classes) x c ≡ true) (sym first.2) is)

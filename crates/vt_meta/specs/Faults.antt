@@ -1,5 +1,5 @@
 -- The first fault of a metamodel document that has its shape.
-use Rattle.std.specs.Prelude.{ℕ, ◌+◌, ◌&&◌, ◌||◌, List, [], ◌∷◌, ◌++◌, length, take, map, find, sum_by, Bool, true, false, not, nat_lt, is_none, is_some, if◌then◌else◌, Option, Some, None, option_map}
+use Rattle.std.specs.Prelude.{ℕ, ◌+◌, ◌&&◌, ◌||◌, List, [], ◌∷◌, ◌++◌, length, take, map, find, sum_by, Contains, Bool, true, false, not, nat_lt, is_none, is_some, if◌then◌else◌, Option, Some, None, option_map}
 use Rattle.std.specs.List.{list_any}
 use Rattle.std.specs.Option.{option_map_or}
 use Rattle.vt_base.specs.declared.numbers.ClassId.{ClassId}
@@ -67,8 +67,11 @@ abbrev pub is_above_itself : MetamodelDocument → ClassId → Bool
 is_above_itself document c = list_any (λ s. is_within (supers_in document) (length document.classes) s c) (supers_of (supers_in document) c)
 
 -- the same as a fact: a path of supertypes leads from the class back to it
-abbrev pub IsOnCycle : MetamodelDocument → ClassId → Type 0
-IsOnCycle document c = (e : ClassId) × ((path : List ClassId) × IsPath (supers_in document) c (e ∷ path) c)
+pub record IsOnCycle (document : MetamodelDocument) (c : ClassId) : Type 0 where
+  pub above : ClassId
+  pub first : Contains (supers_of (supers_in document) c) above
+  pub path : List ClassId
+  pub back : IsPath (supers_in document) above path c
 
 -- the opposite that a reference names isn't there, or doesn't answer
 abbrev pub lacks_opposite : MetamodelDocument → ClassDocument → ReferenceDocument → Bool
