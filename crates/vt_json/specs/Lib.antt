@@ -2,5 +2,3 @@
 pub mod Json
 pub mod Shape
 pub mod Names
--- words of private clauses alone
-pub mod Inside

@@ -1,1 +1,0 @@
--- No public clause cites a module below.
