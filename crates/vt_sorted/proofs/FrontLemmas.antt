@@ -14,7 +14,7 @@ use Rattle.vt_sorted.specs.Inside.Fronts.{up_to}
 use Rattle.vt_sorted.specs.Inside.Places.{AllMeet, NoneMeet, EndsAt}
 use Rattle.vt_sorted.specs.Inside.Pieces.{joined, begins_after, IsFilled, AllBelow, AllAbove, IsPlace, IsEndPlace}
 use Rattle.vt_sorted.proofs.AscendingLemmas.{head_below, tail_sorted, above-append_right, sorted_right, below-before, all_at}
-use Rattle.vt_sorted.proofs.PieceLemmas.{joined-append, joined_parts, joined_around, filled_at}
+use Rattle.vt_sorted.proofs.PieceLemmas.{joined_parts, joined_around, filled_at}
 
 not_false : (b : Bool) → not b ≡ false → b ≡ true
 not_false true e = refl

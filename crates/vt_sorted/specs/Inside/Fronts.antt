@@ -1,5 +1,5 @@
 -- The items below one, and those up to one, are fronts.
-use Rattle.std.specs.Prelude.{◌≡◌, Bool, true, false, not, refl}
+use Rattle.std.specs.Prelude.{◌≡◌, Bool, true, not, refl}
 use Rattle.std.specs.declared.cmp.Ordering.{Ordering}
 use Rattle.std.specs.declared.cmp.Ordering.TheVariants.{Less, Equal, Greater}
 use Rattle.std.specs.Ordering.{is_lt}

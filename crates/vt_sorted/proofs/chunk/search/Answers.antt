@@ -1,4 +1,4 @@
-use Rattle.vt_sorted.proofs.AscendingLemmas.{stands_at, goes_at}
+use Rattle.vt_sorted.proofs.SearchLemmas.{stands_at, goes_at}
 use Rattle.vt_sorted.proofs.chunk.search.Goals as goal
 
 pub returns-clause-stands : goal.returns-clause-stands

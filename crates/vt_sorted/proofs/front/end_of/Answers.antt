@@ -1,4 +1,4 @@
-use Rattle.std.proofs.Common.{◌≡◌, ◌+◌, ◌-◌, ◌/◌, ◌<◌, length, get_or, take, drop, true, false, subst, sym, ◌∙◌, add-one, arith}
+use Rattle.std.proofs.Common.{◌≡◌, ◌+◌, ◌-◌, ◌/◌, get_or, take, drop, true, false, subst, sym, ◌∙◌, add-one, arith}
 use Rattle.vt_sorted.specs.Inside.Places.{AllMeet, NoneMeet}
 use Rattle.vt_sorted.proofs.FrontLemmas.{items_after-end, meet_to, none_from}
 use Rattle.vt_sorted.proofs.front.end_of.Goals as goal

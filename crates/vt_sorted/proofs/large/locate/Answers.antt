@@ -2,7 +2,7 @@ use Rattle.std.proofs.Common.{◌≡◌, [], get_or, subst, sym}
 use Rattle.std.specs.List.Sorted.{IsStrictlySortedBy}
 use Rattle.std.proofs.lemmas.List.{get_or_read}
 use Rattle.vt_sorted.specs.Inside.Places.{StandsAt, GoesAt}
-use Rattle.vt_sorted.proofs.PieceLemmas.{piece_ascends, stands_in, goes_in}
+use Rattle.vt_sorted.proofs.PlaceLemmas.{piece_ascends, stands_in, goes_in}
 use Rattle.vt_sorted.proofs.large.locate.Goals as goal
 
 pub find-requires : goal.find-requires

@@ -2,7 +2,7 @@ use Rattle.std.proofs.Common.{◌≡◌, [], get_or, subst, sym, ◌∙◌}
 use Rattle.std.specs.List.Sorted.{IsStrictlySortedBy}
 use Rattle.std.proofs.lemmas.List.{get_or_read}
 use Rattle.vt_sorted.specs.Inside.Places.{EndsAt}
-use Rattle.vt_sorted.proofs.PieceLemmas.{piece_ascends}
+use Rattle.vt_sorted.proofs.PlaceLemmas.{piece_ascends}
 use Rattle.vt_sorted.proofs.FrontLemmas.{items_after-place}
 use Rattle.vt_sorted.proofs.large.walk_past.Goals as goal
 
