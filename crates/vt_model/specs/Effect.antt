@@ -14,6 +14,7 @@ use Rattle.vt_model.specs.declared.change.Change.TheVariants.{Create, Delete, Se
 use Rattle.vt_model.specs.declared.change.Refusal.{Refusal}
 use Rattle.vt_model.specs.declared.change.Refusal.TheVariants.{UnknownObject, Gone, UnknownClass, AbstractClass, NameTaken, ReservedName, UnknownFeature, WrongKind, WrongValue, WrongTarget, ContainmentCycle, TooManyObjects}
 use Rattle.vt_facts.specs.Firsts.{first_of}
+use Rattle.vt_facts.specs.Parts.{◌>>=◌}
 
 -- the link that three names ask for
 abbrev pub link_asked : Metamodel → Model → List ℕ → List ℕ → List ℕ → Option Link

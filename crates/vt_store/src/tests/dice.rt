@@ -7,10 +7,10 @@ use vt_model::Change;
 
 const CHANGES: u32 = 300;
 
-// The names in use are twelve in a row, and begin one higher after so many changes.
-const NAMES: u32 = 12;
+// The names in use are six in a row, and begin one higher after so many changes.
+const NAMES: u32 = 6;
 
-const PACE: u32 = 8;
+const PACE: u32 = 12;
 
 // Every third name is meant for one class, which has these references.
 const CLASSES: [&str; 3] = ["Shelf", "Book", "Atlas"];
@@ -95,14 +95,14 @@ impl Dice {
         let (class, reference) = (self.class(one), self.reference(one));
         let value = self.word(&VALUES);
         let (name, containment) = (self.word(&OTHER_NAMES), self.word(&CONTAINMENTS));
-        Ok(match self.roll() % 16 {
+        Ok(match self.roll() % 19 {
             0 => format!(in alloc; "create {name} {class}")?,
-            1..=3 => format!(in alloc; "create n{one} {class}")?,
-            4 => format!(in alloc; "delete n{one}")?,
-            5..=6 => format!(in alloc; "set n{one} {value}")?,
-            7 => format!(in alloc; "unset n{one} {value}")?,
-            8..=11 => format!(in alloc; "link n{one} {reference} n{other}")?,
-            12 => format!(in alloc; "unlink n{one} {reference} n{other}")?,
+            1..=4 => format!(in alloc; "create n{one} {class}")?,
+            5 => format!(in alloc; "delete n{one}")?,
+            6..=7 => format!(in alloc; "set n{one} {value}")?,
+            8 => format!(in alloc; "unset n{one} {value}")?,
+            9..=12 => format!(in alloc; "link n{one} {reference} n{other}")?,
+            13..=14 => format!(in alloc; "unlink n{one} {reference} n{other}")?,
             _ => format!(in alloc; "move n{one} n{other} {containment}")?,
         })
     }
