@@ -16,8 +16,12 @@ use Rattle.vt_facts.proofs.MapLemmas.{map-map, list_any-map}
 use Rattle.vt_meta.specs.declared.document.ClassDocument.{ClassDocument}
 use Rattle.vt_meta.specs.declared.document.MetamodelDocument.{MetamodelDocument}
 use Rattle.vt_facts.proofs.PositionLemmas.{IsAt, IsAt-position}
-use Rattle.vt_model.proofs.AboveLemmas.{supers_of-ids, there-ids}
+use Rattle.vt_model.proofs.AboveLemmas.{supers_of-ids, there-ids, below_supers_at}
 use Rattle.vt_model.proofs.IsaLemmas.{is_within_exact}
+
+-- what stands right above a place is a place
+pub supers_below : (supers : List (List ℕ)) → AreThere supers → (c : ℕ) → All (λ e. e < length supers) (supers_at supers c)
+supers_below supers there c = below_supers_at supers there c
 
 module _ (document : MetamodelDocument) where
   abbrev place : List ℕ → ℕ

@@ -58,7 +58,7 @@ fn direct_supers(supers: &[List<usize>], class: usize) -> &[usize]
     }
 }
 
-#[tactic(auto, using(crate::proofs::AboveLemmas::below_supers_at))]
+#[tactic(auto, using(crate::proofs::SupersLemmas::supers_below))]
 fn is_above_itself(alloc: Global, supers: &[List<usize>], class: usize) -> Result<bool, NoMemory>
     requires { AreThere supers.now }
     ensures { IfOk result (λ itself. itself ≡ is_above_any supers.now (supers_at supers.now class) class) }
