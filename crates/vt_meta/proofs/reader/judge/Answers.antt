@@ -4,7 +4,13 @@ use Rattle.vt_meta.specs.Faults.{first_fault}
 use Rattle.vt_meta.specs.Reading.{judged, unless_faulty, IsFaultOf}
 use Rattle.vt_meta.specs.Built.{metamodel_of}
 use Rattle.vt_meta.specs.Inside.Refused.{IsFaultIn}
+use Rattle.vt_meta.proofs.Sound.{sound_document}
 use Rattle.vt_meta.proofs.reader.judge.Goals as goal
+
+-- a document without a fault has a sound metamodel
+pub build-requires-clause-sound : goal.build-requires-clause-sound
+build-requires-clause-sound c =
+    sound_document c.in_ok-resolved.resolved.document c.args.document c.in_ok-resolved.ensures c.requires.literals c.in_ok-check.ensures.passes
 
 pub returns-in_err-check-clause-refused : goal.returns-in_err-check-clause-refused
 returns-in_err-check-clause-refused c =
