@@ -51,7 +51,6 @@ module _ (k : Key) (count : ℕ → Fml) (P : Fml) (seen : Lft → Fml) (s : Spa
 
     infix 26 ◌⊩◌
     infix 26 ◌⊩⇛◌
-
     -- no lifetime is over while some of its token is at hand
     still_on : (κ : Lft) (q : Share) {X : SProp 𝓤} → ent 𝓤 (sem 𝓛 (fsep (flft κ q) (fdead κ))) X
     still_on κ q {X} = via 𝓤 (never 𝓤) (𝓛.lfts.lft-dead κ q) (never_e 𝓤 X)

@@ -4,11 +4,13 @@ use mathlib.Core.List.{List, [], ◌∷◌}
 use Prim.Native.Nat.{ℕ, ◌+◌, ◌^◌, ◌<◌}
 use seplogic.Ra.Ura.{Ura}
 use base.Fraction.{full_share}
-use base.Logic.{ent, sep, id⊢, apply∗}
+use base.Logic.{SProp, ent, sep, id⊢, apply∗}
 use base.Mask.{every}
-use base.Fml.{Fml, Lft, Share, ftrue, fsep, fat, fleft, flft, fdead, fobor, fwand, ftok}
+use base.Fml.{Fml, Lft, Share, fhide, ftrue, fsep, fat, fleft, flft, fdead, fobor, fwand, ftok}
 use borrow.Table.OneValue.{part_in, part_out}
-use denote.Memory.{part_at}
+use denote.Memory.{hidden_shr, part_at}
+use denote.Param.Laws.{Laws}
+use denote.RattleType.{RattleType}
 use denote.Plain.{uint_in, uint_out}
 use denote.RawPtr.{Ptr, block_ptr, in_a_block, ◌+ₚ◌}
 use denote.Steps.{nothing}
@@ -21,7 +23,7 @@ use types.Logic.{Logic, sem}
 use types.Na.{na_inv}
 use types.Run.{well_typed}
 use types.Tokens.{obor_close}
-use Rattle.std.proofs.alloc.Calls.{α, token, Fits}
+use Rattle.std.proofs.alloc.Calls.{Al, α, token, Fits}
 use Rattle.std_alloc.proofs.BoxSteps.Form.{Bx, X, τ, own, R, P}
 use Rattle.std_alloc.proofs.BoxSteps.Steps.{el_out, el_in}
 use Rattle.std_alloc.proofs.RcSteps.{Good, Word, word, word_made}
@@ -30,6 +32,14 @@ use Rattle.vt_shared.specs.Inside.Layout.{count_is, contents, goes_back}
 use Rattle.vt_shared.specs.Inside.Owner.{page, owner_owns, owner_shares}
 use Rattle.vt_shared.specs.Inside.Tally.{Spans, loan, book, owner_of}
 use Rattle.vt_shared.proofs.Census as census
+
+-- the parameters of a function of `Shared`, under one name
+abbrev pub both : {V : RattleType} → Laws V → Al → Bx
+both {V} laws al = record { row = V; laws = laws; al = al }
+
+-- a value that needs no bound is well formed
+abbrev pub sure : Unit {0} × Unit {0}
+sure = (tt, tt)
 
 module _ (E : Bx) where
   abbrev pub value_at : ℕ
@@ -43,6 +53,15 @@ module _ (E : Bx) where
 
   abbrev pub count_cell : ℕ → ℕ → ℕ → Fml
   count_cell b o n = fat full_share (ty_int w64) b (o + 0) (vint w64 n)
+
+  abbrev pub value_cell : ℕ → ℕ → Val → Fml
+  value_cell b o v = fat full_share (τ E) b (o + value_at) v
+
+  abbrev pub alloc_cell : ℕ → ℕ → Val → Fml
+  alloc_cell b o hv = fat full_share (α E.al) b (o + alloc_at) hv
+
+  abbrev pub manager : E.al.row.Denot → Val → Fml
+  manager h hv = E.al.row.own_val h (hv ∷ [])
 
   abbrev pub filled : ℕ → Val → Val → Vals
   filled n v hv = vcons (vint w64 n) (vcons v (vcons hv vnil))
@@ -81,10 +100,10 @@ module _ (E : Bx) (x : X E) {M : Type 1} {𝓤 : Ura M} (𝓛 : Logic 𝓤) (ν 
   open 𝓛 use {H}
 
   pub parts : (n : ℕ) (h : E.al.row.Denot) (v hv : Val)
-      → ent 𝓤 (sep 𝓤 (H.at full_share (block_ty E ν) b o (vstruct (filled E n v hv))) (sep 𝓤 (sem 𝓛 (E.al.row.own_val h (hv ∷ []))) (sep 𝓤 (sem 𝓛 (own E x (v ∷ []))) (sem 𝓛 (frees E h (block_ptr b o))))))
+      → ent 𝓤 (sep 𝓤 (H.at full_share (block_ty E ν) b o (vstruct (filled E n v hv))) (sep 𝓤 (sem 𝓛 (manager E h hv)) (sep 𝓤 (sem 𝓛 (own E x (v ∷ []))) (sem 𝓛 (frees E h (block_ptr b o))))))
       (sep 𝓤 (sem 𝓛 (count_is (block_ptr b o) n)) (sem 𝓛 (whole E (block_ptr b o) x)))
-  parts n h v hv = qed 𝓛 (‵ (fat full_share (block_ty E ν) b o (vstruct (filled E n v hv))) ∷ ‵ (E.al.row.own_val h (hv ∷ [])) ∷ ‵ (own E x (v ∷ [])) ∷ ‵ (frees E h (block_ptr b o)) ∷ []) ∵
-      use1 𝓛 ((‵ (count_cell E b o n) ⊛ ‵ (fat full_share (τ E) b (o + value_at E) v) ⊛ ‵ (fat full_share (α E.al) b (o + alloc_at E) hv) ⊛ ‵ ftrue) ⊛ ‵ (fleft full_share (block_ty E ν) (layout.fields (R E) (P E)) b o))
+  parts n h v hv = qed 𝓛 (‵ (fat full_share (block_ty E ν) b o (vstruct (filled E n v hv))) ∷ ‵ (manager E h hv) ∷ ‵ (own E x (v ∷ [])) ∷ ‵ (frees E h (block_ptr b o)) ∷ []) ∵
+      use1 𝓛 ((‵ (count_cell E b o n) ⊛ ‵ (value_cell E b o v) ⊛ ‵ (alloc_cell E b o hv) ⊛ ‵ ftrue) ⊛ ‵ (fleft full_share (block_ty E ν) (layout.fields (R E) (P E)) b o))
       (𝓛.laws.struct_apart full_share ν (layout.fields (R E) (P E)) b o (filled E n v hv)) $ split ! $ split3 ! $ move ! (2 ∷ []) $ split ! $
       -- [the allocator's cell; nothing; the count; the value's cell; the seams; the allocator; the value; its right]
       move ! (0 ∷ 5 ∷ []) $ use2 𝓛 (‵ (part_at (P E) full_share h b (o + alloc_at E))) (part_in 𝓛 (P E) refl full_share h b (o + alloc_at E) hv) $
@@ -93,23 +112,42 @@ module _ (E : Bx) (x : X E) {M : Type 1} {𝓤 : Ura M} (𝓛 : Logic 𝓤) (ν 
       use2 𝓛 (‵ (part_at (R E) full_share x b (o + value_at E))) (el_in E 𝓛 x b (o + value_at E) v) $ fjoin ! $ move ! (2 ∷ []) $
       use1 𝓛 (‵ (count_is (block_ptr b o) n)) (uint_in 𝓛 full_share w64 n b (o + 0)) $ keep ! (0 ∷ 1 ∷ []) $ done !
 
-module _ (E : Bx) (x : X E) {M : Type 1} {𝓤 : Ura M} {𝓛 : Logic 𝓤} {K : Type 0} {Γ : List (Item 𝓤)} {G : Goal 𝓤 𝓛.H} where
-  -- and back: [the block; the allocator; its right; the value]
-  pub joined : K → (ν : Sym) (n b o : ℕ)
-      → ((h : E.al.row.Denot) (v hv : Val) → Good (τ E) v → Fits E.al hv
-      → Seq K 𝓛 (‵ (fat full_share (block_ty E ν) b o (vstruct (filled E n v hv))) ∷ ‵ (E.al.row.own_val h (hv ∷ [])) ∷ ‵ (frees E h (block_ptr b o)) ∷ ‵ (own E x (v ∷ [])) ∷ Γ) G)
-      → Seq K 𝓛 (‵ (whole E (block_ptr b o) x) ∷ ‵ (count_cell E b o n) ∷ Γ) G
-  joined t ν n b o k = fsplit t $
-      use1 𝓛 (some (λ (v : Val). given (Good (τ E) v) (‵ (fat full_share (τ E) b (o + value_at E) v) ⊛ ‵ (own E x (v ∷ []))))) (el_out E 𝓛 x b (o + value_at E)) $ pick t (λ v. learn t (λ good. split t $
-      move t (2 ∷ []) $ fpick t (λ h. fsplit3 t $
-      use1 𝓛 (some (λ (hv : Val). ‵ (fat full_share (α E.al) b (o + alloc_at E) hv) ⊛ ‵ (E.al.row.own_val h (hv ∷ [])))) (part_out 𝓛 (P E) refl full_share h b (o + alloc_at E)) $ pick t (λ hv. split t $
-      use1 𝓛 (given (Fits E.al hv) (‵ (fat full_share (α E.al) b (o + alloc_at E) hv))) (𝓛.laws.at_wt full_share (α E.al) b (o + alloc_at E) hv) $ learn t (λ fits. move t (3 ∷ []) $ fpick t (λ ν'.
-      nothing t $ move t (1 ∷ 7 ∷ 5 ∷ 2 ∷ 0 ∷ []) $ group t 5 $
-      use1 𝓛 (‵ (fat full_share (block_ty E ν') b o (vstruct (filled E n v hv)))) (𝓛.laws.struct_back full_share ν' (layout.fields (R E) (P E)) b o (filled E n v hv)) $
-      use1 𝓛 (‵ (fat full_share (bare (block_ty E ν)) b o (vstruct (filled E n v hv)))) (𝓛.laws.at_raw full_share (block_ty E ν') b o (vstruct (filled E n v hv))) $
-      use1 𝓛 (‵ (fat full_share (block_ty E ν) b o (vstruct (filled E n v hv)))) (𝓛.laws.raw_at full_share (block_ty E ν) b o (vstruct (filled E n v hv))) $ k h v hv good fits))))))
+module _ (E : Bx) (x : X E) {M : Type 1} {𝓤 : Ura M} (𝓛 : Logic 𝓤) (b o : ℕ) where
+  -- the value in its cell with what it owns, and the allocator in its own
+  abbrev Valued : Val → Item 𝓤
+  Valued v = given (Good (τ E) v) (‵ (value_cell E b o v) ⊛ ‵ (own E x (v ∷ [])))
 
-module _ (E : Bx) (c : Ptr) (x : X E) {M : Type 1} {𝓤 : Ura M} {𝓛 : Logic 𝓤} {K : Type 0} {Γ : List (Item 𝓤)} {G : Goal 𝓤 𝓛.H} where
+  abbrev Managed : E.al.row.Denot → Val → Item 𝓤
+  Managed h hv = ‵ (alloc_cell E b o hv) ⊛ ‵ (manager E h hv)
+
+  abbrev Sized : Val → Item 𝓤
+  Sized hv = given (Fits E.al hv) (‵ (alloc_cell E b o hv))
+
+module _ (E : Bx) (c : Ptr) (x : X E) {M : Type 1} {𝓤 : Ura M} {𝓛 : Logic 𝓤} {K : Type 0} {G : Goal 𝓤 𝓛.H} {Γ : List (Item 𝓤)} where
+  -- and back: [the block; the allocator; its right; the value]
+  pub joined : K → (ν : Sym) (n b o : ℕ) → c ≡ block_ptr b o
+      → ((h : E.al.row.Denot) (v hv : Val) (good : Good (τ E) v) (fits : Fits E.al hv)
+      → Seq K 𝓛 (‵ (fat full_share (block_ty E ν) b o (vstruct (filled E n v hv))) ∷ ‵ (manager E h hv) ∷ ‵ (frees E h (block_ptr b o)) ∷ ‵ (own E x (v ∷ [])) ∷ Γ) G)
+      → Seq K 𝓛 (‵ (whole E c x) ∷ ‵ (count_cell E b o n) ∷ Γ) G
+  joined t ν n b o is_at k = rewrite t 0 (λ (r : Ptr). ‵ (whole E r x)) is_at refl $ fsplit t $ move t (1 ∷ []) $ fpick t (λ h. fsplit3 t $
+      use1 𝓛 (some (Managed E x 𝓛 b o h)) (part_out 𝓛 (P E) refl full_share h b (o + alloc_at E)) $ pick t (λ hv. split t $
+      use1 𝓛 (Sized E x 𝓛 b o hv) (𝓛.laws.at_wt full_share (α E.al) b (o + alloc_at E) hv) $ learn t (λ fits. move t (4 ∷ []) $
+      use1 𝓛 (some (Valued E x 𝓛 b o)) (el_out E 𝓛 x b (o + value_at E)) $ pick t (λ v. learn t (λ good. split t $
+      -- [the value's cell; the value; the allocator's cell; the allocator; its right; the seams; the count]
+      move t (5 ∷ []) $ fpick t (λ ν'. nothing t $ move t (1 ∷ 7 ∷ 2 ∷ 4 ∷ 0 ∷ []) $ group t 5 $ let block : Val = vstruct (filled E n v hv) in
+      use1 𝓛 (‵ (fat full_share (block_ty E ν') b o block)) (𝓛.laws.struct_back full_share ν' (layout.fields (R E) (P E)) b o (filled E n v hv)) $
+      use1 𝓛 (‵ (fat full_share (bare (block_ty E ν)) b o block)) (𝓛.laws.at_raw full_share (block_ty E ν') b o block) $
+      use1 𝓛 (‵ (fat full_share (block_ty E ν) b o block)) (𝓛.laws.raw_at full_share (block_ty E ν) b o block) $ move t (0 ∷ 2 ∷ 3 ∷ 1 ∷ []) $ k h v hv good fits))))))
+
+  -- a `&` as a parameter, with the tokens: [the pointer's word; what it holds; its token; the thread's; the others]
+  pub from_ref : K → (ν : Sym) (κ : Lft) (q : Share) (b o : ℕ) (A B : Fml) (others : Item 𝓤) (needs : SProp 𝓤) → ent 𝓤 (sem 𝓛 B) (sep 𝓤 (sem 𝓛 (hidden_shr (Word E ν) κ (c, tt) b o)) (sem 𝓛 (fhide (lends E c x κ))))
+      → Step K 𝓛 (‵ (hidden_shr (Word E ν) κ (c, tt) b o) ∷ ‵ (fhide (lends E c x κ)) ∷ ‵ (flft κ q) ∷ ‵ (ftok every) ∷ others ∷ Γ) G
+      (((‵ (flft κ q) ⊛ others) ⊛ ‵ (fsep (fsep A B) ftrue)) ∷ (‵ (ftok every) ⊛ raw needs) ∷ Γ) G
+  from_ref t ν κ q b o A B others needs is_so = step (λ next. move t (1 ∷ []) $ split t $ move t (2 ∷ []) $ split t $ split t $ move t (2 ∷ []) $ fsplit t $ fsplit t $ move t (1 ∷ []) $
+      use1 𝓛 (‵ (hidden_shr (Word E ν) κ (c, tt) b o) ⊛ ‵ (fhide (lends E c x κ))) is_so $ split t $
+      -- [the word; what is held; A; nothing; the token; the others; the thread's; the needs]
+      move t (2 ∷ []) $ drop t $ move t (2 ∷ []) $ drop t $ move t (5 ∷ []) $ drop t $ move t (0 ∷ 1 ∷ 2 ∷ 4 ∷ []) $ next)
+
   -- the book is opened at its count: [the count; what lies with it; the share; what shuts the book]
   pub opened : K → Soaks G → (s : Spans) (q : Share)
       → ((n b o : ℕ) → c ≡ block_ptr b o → n < 2 ^ 64 → Seq K 𝓛 (‵ (count_cell E b o n) ∷ ‵ (remains E c x s n) ∷ ‵ (flft (loan s) q) ∷ Shuts E c x 𝓛 s ∷ Γ) G)
@@ -122,7 +160,7 @@ module _ (E : Bx) (c : Ptr) (x : X E) {M : Type 1} {𝓤 : Ura M} {𝓛 : Logic 
   shut t z s n b o is_at = step (λ next. use1 𝓛 (‵ (count_is (block_ptr b o) n)) (uint_in 𝓛 full_share w64 n b (o + 0)) $ rewrite t 0 (λ (r : Ptr). ‵ (count_is r n)) (sym is_at) refl $
       use3 𝓛 (later (‵ (ftok every))) (census.shuts_book (page c) (count_is c) (whole E c x) (shown E c x) s 𝓛 n) $ await t z $ next)
 
-module _ (E : Bx) (c : Ptr) (x : X E) {M : Type 1} {𝓤 : Ura M} {𝓛 : Logic 𝓤} {K : Type 0} {Γ : List (Item 𝓤)} {G : Goal 𝓤 𝓛.H} where
+module _ (E : Bx) (c : Ptr) (x : X E) {M : Type 1} {𝓤 : Ura M} {𝓛 : Logic 𝓤} {K : Type 0} {G : Goal 𝓤 𝓛.H} {Γ : List (Item 𝓤)} where
   -- an owner opens its book: [the count; what lies with it; the owner's right; what shuts the book]
   pub owner_opens : K → Soaks G
       → ((s : Spans) (n b o : ℕ) → c ≡ block_ptr b o → n < 2 ^ 64 → Seq K 𝓛 (‵ (count_cell E b o n) ∷ ‵ (remains E c x s n) ∷ ‵ (mine E c x s) ∷ Shuts E c x 𝓛 s ∷ ‵ (shown E c x (loan s)) ∷ Γ) G)

@@ -50,7 +50,7 @@ module _ {M : Type 1} {𝓤 : Ura M} (𝓛 : Logic 𝓤) (T : Ended) (hs : Stays
       → ((C : Calls 𝓤 H) (Λ : Loops 𝓤 H) (y : Start) → Known y → Walk f C Λ y) → Meets 𝓛 T.signature (𝓡.run (𝓡.env k)) (closing 𝓛 T c)
   unfolding tables_of
   walked_with_token 𝓜 𝓡 k f go code walk =
-      let token : Carries 𝓤 H 𝓜 (A.tok every) = subst (Carries 𝓤 H 𝓜) 𝓛.turn_is 𝓡.carries in
+      let token = subst (Carries 𝓤 H 𝓜) 𝓛.turn_is 𝓡.carries in
       let 𝓣 : Tables 𝓤 H = tables_of 𝓤 H token.inner (bare_tables 𝓤 H token.inner 𝓡.allowed 𝓡.how 𝓡.env) in
       let meets = walk_Meets 𝓛 T hs go with_token (WpFn 𝓤 H 𝓣.C 𝓣.Λ f) (WpFn-mono 𝓤 H 𝓛.laws 𝓣 f) (λ y. knowing y f 𝓣.C 𝓣.Λ (walk 𝓣.C 𝓣.Λ y)) in
       hands 𝓛 T (A.tok every) c 𝓜 token 𝓡 (𝓡.env k) (entered 𝓤 H (triple_of 𝓛 T.signature (closing 𝓛 T with_token)) 𝓣.C 𝓣.Λ k f (bare_unfolds 𝓤 H token.inner 𝓡.allowed 𝓡.how 𝓡.env k f code) meets)

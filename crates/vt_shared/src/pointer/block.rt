@@ -36,7 +36,8 @@ impl<T, A: Allocator> Shared<T, A> {
     pub fn get(&self) -> &T
         ensures { result.now ≡ self.now.value }
     {
-        unsafe { &(*self.block).value }
+        let block = self.block;
+        unsafe { &(*block).value }
     }
 
     /// One owner more.
