@@ -16,7 +16,7 @@ use denote.RawPtr.{Ptr, block_ptr, in_a_block, ◌+ₚ◌}
 use denote.Steps.{nothing}
 use denote.Struct.Lending.{lent_at}
 use mir.Raw.{raw as bare}
-use mir.Syntax.{Sym, Ty, w64, ty_int, ty_struct}
+use mir.Syntax.{Sym, Ty, w64, ty_int, ty_struct, tcons, tnil}
 use mir.Val.{Val, Vals, vint, vstruct, vcons, vnil}
 use types.Kit.{Item, Goal, Seq, Step, Soaks, step, ‵, raw, ◌⊛◌, some, later, given, ◌$◌, ◌∵◌, !, qed, move, keep, drop, use1, use2, use3, pick, learn, await, group, split, split3, fsplit, fsplit3, fjoin, fjoin3, fpick, fpack, rewrite, done}
 use types.Logic.{Logic, sem}
@@ -48,8 +48,12 @@ module _ (E : Bx) where
   abbrev pub alloc_at : ℕ
   alloc_at = layout.alloc_at (R E) (P E)
 
+  -- a block as the code has it, and as it lies
   abbrev pub block_ty : Sym → Ty
-  block_ty ν = ty_struct ν (layout.fields (R E) (P E))
+  block_ty ν = ty_struct ν (tcons (ty_int w64) (tcons (τ E) (tcons (α E.al) tnil)))
+
+  abbrev pub lying : Ty
+  lying = ty_struct [] (layout.fields (R E) (P E))
 
   abbrev pub count_cell : ℕ → ℕ → ℕ → Fml
   count_cell b o n = fat full_share (ty_int w64) b (o + 0) (vint w64 n)
@@ -68,7 +72,7 @@ module _ (E : Bx) where
 
   -- the right of the allocator h to free the block at c
   abbrev pub frees : E.al.row.Denot → Ptr → Fml
-  frees h c = token E.al h (bare (block_ty [])) c
+  frees h c = token E.al h lying c
 
 module _ (E : Bx) (c : Ptr) (x : X E) where
   abbrev pub whole : Fml
@@ -103,13 +107,14 @@ module _ (E : Bx) (x : X E) {M : Type 1} {𝓤 : Ura M} (𝓛 : Logic 𝓤) (ν 
       → ent 𝓤 (sep 𝓤 (H.at full_share (block_ty E ν) b o (vstruct (filled E n v hv))) (sep 𝓤 (sem 𝓛 (manager E h hv)) (sep 𝓤 (sem 𝓛 (own E x (v ∷ []))) (sem 𝓛 (frees E h (block_ptr b o))))))
       (sep 𝓤 (sem 𝓛 (count_is (block_ptr b o) n)) (sem 𝓛 (whole E (block_ptr b o) x)))
   parts n h v hv = qed 𝓛 (‵ (fat full_share (block_ty E ν) b o (vstruct (filled E n v hv))) ∷ ‵ (manager E h hv) ∷ ‵ (own E x (v ∷ [])) ∷ ‵ (frees E h (block_ptr b o)) ∷ []) ∵
-      use1 𝓛 ((‵ (count_cell E b o n) ⊛ ‵ (value_cell E b o v) ⊛ ‵ (alloc_cell E b o hv) ⊛ ‵ ftrue) ⊛ ‵ (fleft full_share (block_ty E ν) (layout.fields (R E) (P E)) b o))
-      (𝓛.laws.struct_apart full_share ν (layout.fields (R E) (P E)) b o (filled E n v hv)) $ split ! $ split3 ! $ move ! (2 ∷ []) $ split ! $
+      use1 𝓛 (‵ (fat full_share (lying E) b o (vstruct (filled E n v hv)))) (𝓛.laws.at_raw full_share (block_ty E ν) b o (vstruct (filled E n v hv))) $
+      use1 𝓛 ((‵ (count_cell E b o n) ⊛ ‵ (fat full_share (bare (τ E)) b (o + value_at E) v) ⊛ ‵ (fat full_share (bare (α E.al)) b (o + alloc_at E) hv) ⊛ ‵ ftrue) ⊛ ‵ (fleft full_share (lying E) (layout.fields (R E) (P E)) b o))
+      (𝓛.laws.struct_apart full_share [] (layout.fields (R E) (P E)) b o (filled E n v hv)) $ split ! $ split3 ! $ move ! (2 ∷ []) $ split ! $
       -- [the allocator's cell; nothing; the count; the value's cell; the seams; the allocator; the value; its right]
-      move ! (0 ∷ 5 ∷ []) $ use2 𝓛 (‵ (part_at (P E) full_share h b (o + alloc_at E))) (part_in 𝓛 (P E) refl full_share h b (o + alloc_at E) hv) $
-      move ! (4 ∷ []) $ fpack ! Sym (λ ν'. fleft full_share (block_ty E ν') (layout.fields (R E) (P E)) b o) ν $ move ! (1 ∷ 6 ∷ 0 ∷ []) $ fjoin3 ! $
-      fpack ! E.al.row.Denot (goes_back (R E) (P E) (token E.al) (block_ptr b o)) h $ move ! (3 ∷ 4 ∷ []) $
-      use2 𝓛 (‵ (part_at (R E) full_share x b (o + value_at E))) (el_in E 𝓛 x b (o + value_at E) v) $ fjoin ! $ move ! (2 ∷ []) $
+      use1 𝓛 (‵ (alloc_cell E b o hv)) (𝓛.laws.raw_at full_share (α E.al) b (o + alloc_at E) hv) $ move ! (0 ∷ 5 ∷ []) $
+      use2 𝓛 (‵ (part_at (P E) full_share h b (o + alloc_at E))) (part_in 𝓛 (P E) refl full_share h b (o + alloc_at E) hv) $ move ! (0 ∷ 6 ∷ 4 ∷ []) $ fjoin3 ! $
+      fpack ! E.al.row.Denot (goes_back (R E) (P E) (token E.al) (block_ptr b o)) h $ move ! (3 ∷ []) $ use1 𝓛 (‵ (value_cell E b o v)) (𝓛.laws.raw_at full_share (τ E) b (o + value_at E) v) $
+      move ! (0 ∷ 4 ∷ []) $ use2 𝓛 (‵ (part_at (R E) full_share x b (o + value_at E))) (el_in E 𝓛 x b (o + value_at E) v) $ fjoin ! $ move ! (2 ∷ []) $
       use1 𝓛 (‵ (count_is (block_ptr b o) n)) (uint_in 𝓛 full_share w64 n b (o + 0)) $ keep ! (0 ∷ 1 ∷ []) $ done !
 
 module _ (E : Bx) (x : X E) {M : Type 1} {𝓤 : Ura M} (𝓛 : Logic 𝓤) (b o : ℕ) where
@@ -134,10 +139,11 @@ module _ (E : Bx) (c : Ptr) (x : X E) {M : Type 1} {𝓤 : Ura M} {𝓛 : Logic 
       use1 𝓛 (Sized E x 𝓛 b o hv) (𝓛.laws.at_wt full_share (α E.al) b (o + alloc_at E) hv) $ learn t (λ fits. move t (4 ∷ []) $
       use1 𝓛 (some (Valued E x 𝓛 b o)) (el_out E 𝓛 x b (o + value_at E)) $ pick t (λ v. learn t (λ good. split t $
       -- [the value's cell; the value; the allocator's cell; the allocator; its right; the seams; the count]
-      move t (5 ∷ []) $ fpick t (λ ν'. nothing t $ move t (1 ∷ 7 ∷ 2 ∷ 4 ∷ 0 ∷ []) $ group t 5 $ let block : Val = vstruct (filled E n v hv) in
-      use1 𝓛 (‵ (fat full_share (block_ty E ν') b o block)) (𝓛.laws.struct_back full_share ν' (layout.fields (R E) (P E)) b o (filled E n v hv)) $
-      use1 𝓛 (‵ (fat full_share (bare (block_ty E ν)) b o block)) (𝓛.laws.at_raw full_share (block_ty E ν') b o block) $
-      use1 𝓛 (‵ (fat full_share (block_ty E ν) b o block)) (𝓛.laws.raw_at full_share (block_ty E ν) b o block) $ move t (0 ∷ 2 ∷ 3 ∷ 1 ∷ []) $ k h v hv good fits))))))
+      use1 𝓛 (‵ (fat full_share (bare (τ E)) b (o + value_at E) v)) (𝓛.laws.at_raw full_share (τ E) b (o + value_at E) v) $ move t (2 ∷ []) $
+      use1 𝓛 (‵ (fat full_share (bare (α E.al)) b (o + alloc_at E) hv)) (𝓛.laws.at_raw full_share (α E.al) b (o + alloc_at E) hv) $
+      nothing t $ move t (6 ∷ 7 ∷ 2 ∷ 1 ∷ 0 ∷ []) $ group t 5 $ let block : Val = vstruct (filled E n v hv) in
+      use1 𝓛 (‵ (fat full_share (lying E) b o block)) (𝓛.laws.struct_back full_share [] (layout.fields (R E) (P E)) b o (filled E n v hv)) $
+      use1 𝓛 (‵ (fat full_share (block_ty E ν) b o block)) (𝓛.laws.raw_at full_share (block_ty E ν) b o block) $ move t (0 ∷ 2 ∷ 3 ∷ 1 ∷ []) $ k h v hv good fits)))))
 
   -- a `&` as a parameter, with the tokens: [the pointer's word; what it holds; its token; the thread's; the others]
   pub from_ref : K → (ν : Sym) (κ : Lft) (q : Share) (b o : ℕ) (A B : Fml) (others : Item 𝓤) (needs : SProp 𝓤) → ent 𝓤 (sem 𝓛 B) (sep 𝓤 (sem 𝓛 (hidden_shr (Word E ν) κ (c, tt) b o)) (sem 𝓛 (fhide (lends E c x κ))))

@@ -7,7 +7,7 @@ use base.Logic.{SProp, ent, sep, id⊢, fst∗, never}
 use base.Mask.{every}
 use denote.Builtin.{RefOf}
 use denote.Exit.{yes}
-use denote.Memory.{shared_of}
+use denote.Memory.{lone, shared_of}
 use denote.Opens.{unhide, hide}
 use denote.RattleType.{owns}
 use denote.RawPtr.{Ptr, ptr_val, in_a_block, ◌+ₚ◌}
@@ -18,6 +18,8 @@ use denote.Triple.Walked.{says, Stays, stay_dropped, walk_of, Goes-dropped}
 use mir.MapTy.{inst_fn}
 use mir.Syntax.{Sym}
 use mir.Val.{Val, vptr}
+use prog.Memory.{up}
+use prog.RawLaws.{align-raw}
 use prog.Wp.{WpFn}
 use types.ByLocal.{alloc_all, pass_all, free_all, look_at, get, through, sets, sets_last, is, env}
 use types.Kit.{Item, ‵, raw, ◌⊛◌, prop, at_ret, ◌$◌, ◌∵◌, !, qed, by, done, move, keep, use1, join, fsplit, fjoin, feq_i, regoal, frame, suffices}
@@ -59,7 +61,7 @@ get_spec 𝓤 𝓛 𝓜 𝓡 wired V A lawsV lawsA ghosts calls drops _ _ =
     let seen : Val = vptr at (off + value_at E) in
     regoal ! (λ (given : List Val). prop (WpFn 𝓤 𝓛.H C Λ f (given ++ []) Ends)) known.0.0 refl $ enter ! C Λ f (vptr b o ∷ []) Ends $ alloc_all ! (λ l. pass_all ! refl (sure, tt) $
     move ! (2 ∷ 3 ∷ []) $ reads E ν c ! tt b o (λ part. sets ! (is ! (of_opd ! (load ! (through ! refl (fld ! refl (stop !))) (look_in ! 0 (sub ! 0 refl (whole !))))) (ap ptr_val is_at)) refl sure $ read E ν c ! tt b o part $
-    first ! $ blocks ! $ sets_last ! (addr ! (through ! refl (fld ! refl (stop !)))) refl sure $ exec ! C Λ (env f.locals l) (after 2 f.body) (at_ret _ Ends) $ sets ! (of_opd ! (get ! refl)) refl sure $
+    first ! $ blocks ! $ sets_last ! (is ! (addr ! (through ! refl (fld ! refl (stop !)))) (ap (λ (n : ℕ). vptr at (off + up n 8)) (sym (align-raw (lone (R E).mir))))) refl sure $ exec ! C Λ (env f.locals l) (after 2 f.body) (at_ret _ Ends) $ sets ! (of_opd ! (get ! refl)) refl sure $
     returns ! (look_at ! 0 refl) $ free_all ! refl $ keep ! (0 ∷ 4 ∷ 1 ∷ 3 ∷ []) $ join ! $
     suffices ! _ (leaves 𝓛 ended stays token y seen (record { ref_ptr = (at, off + value_at E); now = x }) (tt, tt) (tt, tt)) $ frame ! $
     feq_i ! (List Val) (seen ∷ []) (seen ∷ []) refl $ fjoin ! $ nothing ! $ nothing ! $ fjoin ! $ frame ! $ frame ! $ says ! refl $ done !))))
