@@ -15,3 +15,4 @@ pub mod StoreLemmas
 pub mod LinkageLemmas
 pub mod GoneLemmas
 pub mod BackLemmas
+pub mod MakesLemmas

@@ -1,5 +1,6 @@
 -- what the contracts say, in reading order
 pub mod Edits
 pub mod Undoing
+pub mod Changing
 -- what the functions inside the crate promise each other
 pub mod Inside

@@ -3,13 +3,16 @@ ghost use Rattle.std.specs.Prelude.{◌≡◌, [], IfOk, IfErr, OnOk, OnErr, Ok,
 ghost use Rattle.std.specs.Option.{option_copied};
 ghost use Rattle.vt_meta.specs.Assigning.{with_default_value};
 ghost use Rattle.vt_meta.specs.Effect.{effect};
+ghost use Rattle.vt_meta.specs.Sound.{IsSound};
 ghost use Rattle.vt_meta.specs.Valid.{IsValid};
 ghost use Rattle.vt_meta.specs.declared.change.Change.TheVariants as change;
 ghost use Rattle.vt_graph.specs.Asked.{value_at};
 ghost use Rattle.vt_graph.specs.Having.{HasAttribute};
+ghost use Rattle.vt_store.specs.Changing.{Makes};
 ghost use Rattle.vt_store.specs.Inside.Assigned.{held_value, value_change, values_edit};
 
 use crate::edit::Edit;
+use crate::fault::StoreFault;
 use crate::naming::live_named;
 use crate::valuing::{attribute_asked, default_value, same_given, value_asked};
 use std::alloc::Global;
@@ -19,17 +22,17 @@ use vt_meta::{AttributeValue, Given, Refusal};
 
 /// An attribute of a live object, and the value that it gets, if any.
 #[derive(Debug, Drop)]
-pub(crate) struct Assignment {
-    pub(crate) object: ObjId,
-    pub(crate) attribute: AttrId,
-    pub(crate) value: Option<Value>,
+struct Assignment {
+    object: ObjId,
+    attribute: AttrId,
+    value: Option<Value>,
 }
 
 // ---- what is asked for
 
 // The assignment that a set is.
 #[tactic(auto, using(crate::proofs::AssignmentLemmas::set_not_live, crate::proofs::AssignmentLemmas::set_no_feature, crate::proofs::AssignmentLemmas::set_no_attribute, crate::proofs::AssignmentLemmas::set_refused, crate::proofs::AssignmentLemmas::set_made, crate::proofs::AssignmentLemmas::has_attribute))]
-pub(crate) fn set_asked(
+fn set_asked(
     graph: &Graph,
     name: &Text,
     attribute: &Text,
@@ -60,7 +63,7 @@ pub(crate) fn set_asked(
 
 // The assignment that an unset is.
 #[tactic(auto, using(crate::proofs::AssignmentLemmas::unset_not_live, crate::proofs::AssignmentLemmas::unset_no_feature, crate::proofs::AssignmentLemmas::unset_no_attribute, crate::proofs::AssignmentLemmas::unset_made, crate::proofs::AssignmentLemmas::has_attribute))]
-pub(crate) fn unset_asked(
+fn unset_asked(
     graph: &Graph,
     name: &Text,
     attribute: &Text,
@@ -129,7 +132,7 @@ fn value_change(
 }
 
 // Gives an attribute its value, or none.
-pub(crate) fn assign(graph: &mut Graph, alloc: Global, asked: Assignment) -> Result<Edit, NoMemory>
+fn assign(graph: &mut Graph, alloc: Global, asked: Assignment) -> Result<Edit, NoMemory>
     requires had { HasAttribute graph.old.meta graph.old.model asked.object asked.attribute }
     ensures meta { graph.new.meta ≡ graph.old.meta }
     ensures made { OnOk result (graph.new.model ≡ with_default_value graph.old.model asked.object asked.attribute asked.value) }
@@ -156,4 +159,40 @@ pub(crate) fn assign(graph: &mut Graph, alloc: Global, asked: Assignment) -> Res
     )?;
     graph.put_value(object, attribute, value);
     Ok(Edit::of_values(alloc, graph.meta(), graph.next(), added, removed))
+}
+
+// Makes a Set.
+#[tactic(auto, using(crate::proofs::MakesLemmas::makes_refusal, crate::proofs::AssignmentLemmas::makes_no_assignment, crate::proofs::AssignmentLemmas::makes_assigned))]
+pub(crate) fn set(
+    graph: &mut Graph,
+    alloc: Global,
+    name: &Text,
+    attribute: &Text,
+    given: &Given,
+) -> Result<Edit, StoreFault>
+    requires sound { IsSound graph.old.meta }
+    requires valid { IsValid graph.old.meta graph.old.model }
+    ensures { Makes (change.Set name.now attribute.now given.now) graph.old graph.new result }
+{
+    // It tells that the links fit in their room.
+    graph.meta();
+    let asked = set_asked(graph, name, attribute, given)?;
+    Ok(assign(graph, alloc, asked)?)
+}
+
+// Makes an Unset.
+#[tactic(auto, using(crate::proofs::MakesLemmas::makes_refusal, crate::proofs::AssignmentLemmas::makes_no_assignment, crate::proofs::AssignmentLemmas::makes_assigned))]
+pub(crate) fn unset(
+    graph: &mut Graph,
+    alloc: Global,
+    name: &Text,
+    attribute: &Text,
+) -> Result<Edit, StoreFault>
+    requires sound { IsSound graph.old.meta }
+    requires valid { IsValid graph.old.meta graph.old.model }
+    ensures { Makes (change.Unset name.now attribute.now) graph.old graph.new result }
+{
+    graph.meta();
+    let asked = unset_asked(graph, name, attribute)?;
+    Ok(assign(graph, alloc, asked)?)
 }

@@ -290,7 +290,7 @@ fn bury_all(graph: &mut Graph, found: &[ObjId], waiting: &mut Roomy<Buried>)
 }
 
 // A live object goes with all that is in it.
-pub(crate) fn delete(graph: &mut Graph, alloc: Global, o: ObjId) -> Result<Edit, NoMemory>
+pub(crate) fn remove(graph: &mut Graph, alloc: Global, o: ObjId) -> Result<Edit, NoMemory>
     requires valid { IsValid graph.old.meta graph.old.model }
     requires live { IsSome (live_at graph.old.model o) }
     ensures meta { graph.new.meta ≡ graph.old.meta }

@@ -1,57 +1,26 @@
 // The change of whole objects: Delete.
-ghost use Rattle.std.specs.Prelude.{◌≡◌, ◌++◌, IfOk, IsSome, OnOk, OnErr, Ok, Err};
-ghost use Rattle.vt_meta.specs.Deleting.{deleted};
-ghost use Rattle.vt_meta.specs.Effect.{effect};
+ghost use Rattle.vt_meta.specs.Sound.{IsSound};
 ghost use Rattle.vt_meta.specs.Valid.{IsValid};
 ghost use Rattle.vt_meta.specs.declared.change.Change.TheVariants as change;
-ghost use Rattle.vt_meta.specs.declared.change.Refusal.{Refusal};
-ghost use Rattle.vt_graph.specs.Asked.{live_at};
-ghost use Rattle.vt_store.specs.Edits.{edit_of};
-ghost use Rattle.vt_store.specs.Undoing.{KeepsRoomOf, Fits};
-ghost use Rattle.vt_store.specs.declared.fault.StoreFault.TheVariants as fault;
+ghost use Rattle.vt_store.specs.Changing.{Makes};
 
-use crate::Store;
-use crate::deletion::delete;
+use crate::deletion::remove;
 use crate::edit::Edit;
 use crate::fault::StoreFault;
 use crate::naming::live_named;
 use std::alloc::Global;
-use vt_base::{NoMemory, ObjId, Text};
+use vt_base::Text;
+use vt_graph::Graph;
 
-impl Store {
-    // Takes a live object out, with all that is in it.
-    #[tactic(auto, using(crate::proofs::CreateLemmas::room_kept, crate::proofs::Deleting::Fitting::deleted_edit, crate::proofs::Deleting::Fitting::deleted_fits))]
-    fn remove(&mut self, alloc: Global, o: ObjId) -> Result<Edit, NoMemory>
-        requires live { IsSome (live_at self.old.model o) }
-        requires valid { IsValid self.old.meta (deleted self.old.meta self.old.model o) }
-        ensures made { OnOk result (self.new.model ≡ deleted self.old.meta self.old.model o) }
-        ensures unchanged { OnErr result (self.new.model ≡ self.old.model) }
-        ensures meta { self.new.meta ≡ self.old.meta }
-        ensures edit { IfOk result (λ e. e.edit ≡ edit_of self.old.model self.new.model) }
-        ensures fits { IfOk result (λ e. Fits e self.new) }
-        ensures room { IfOk result (λ e. KeepsRoomOf self.old.model self.old.places (e.waiting ++ self.new.places)) }
-        ensures kept { OnErr result (KeepsRoomOf self.old.model self.old.places self.new.places) }
-    {
-        // It tells that the links fit in their room.
-        self.graph.meta();
-        delete(&mut self.graph, alloc, o)
-    }
-
-    /// A live object is deleted, with all that is in it.
-    #[tactic(auto, using(crate::proofs::StoreLemmas::valid_made))]
-    pub fn delete(&mut self, alloc: Global, name: &Text) -> Result<Edit, StoreFault>
-        ensures made { OnOk result (effect self.old.meta self.old.model (change.Delete name.now) ≡ Ok self.new.model) }
-        ensures refused { (why : Refusal) → result ≡ Err (fault.Refused why)
-            → effect self.old.meta self.old.model (change.Delete name.now) ≡ Err why }
-        ensures unchanged { OnErr result (self.new.model ≡ self.old.model) }
-        ensures meta { self.new.meta ≡ self.old.meta }
-        ensures edit { IfOk result (λ e. e.edit ≡ edit_of self.old.model self.new.model) }
-        ensures fits { IfOk result (λ e. Fits e self.new) }
-        ensures room { IfOk result (λ e. KeepsRoomOf self.old.model self.old.places (e.waiting ++ self.new.places)) }
-        ensures kept { OnErr result (KeepsRoomOf self.old.model self.old.places self.new.places) }
-    {
-        let object = live_named(&self.graph, name)?;
-        let edit = self.remove(alloc, object.number)?;
-        Ok(edit)
-    }
+// Makes a Delete.
+#[tactic(auto, using(crate::proofs::Deleting::Fitting::named_live, crate::proofs::Deleting::Fitting::delete_refused, crate::proofs::Deleting::Fitting::delete_made, crate::proofs::MakesLemmas::makes_refusal, crate::proofs::Deleting::Fitting::makes_no_deletion, crate::proofs::Deleting::Fitting::makes_deleted))]
+pub(crate) fn delete(graph: &mut Graph, alloc: Global, name: &Text) -> Result<Edit, StoreFault>
+    requires sound { IsSound graph.old.meta }
+    requires valid { IsValid graph.old.meta graph.old.model }
+    ensures { Makes (change.Delete name.now) graph.old graph.new result }
+{
+    // It tells that the links fit in their room.
+    graph.meta();
+    let object = live_named(graph, name)?;
+    Ok(remove(graph, alloc, object.number)?)
 }

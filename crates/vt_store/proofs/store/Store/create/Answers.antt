@@ -1,14 +1,9 @@
-use Rattle.std.proofs.Common.{subst}
-use Rattle.vt_meta.specs.Creating.{created}
-use Rattle.vt_meta.specs.Valid.{IsValid}
-use Rattle.vt_meta.specs.declared.change.Change.TheVariants as change
-use Rattle.vt_graph.specs.Held.{Held}
-use Rattle.vt_store.proofs.StoreLemmas.{valid_made}
+use Rattle.vt_store.proofs.MakesLemmas.{valid_still, makes_seen}
 use Rattle.vt_store.proofs.store.Store.create.Goals as goal
 
--- what is asked for leaves the model valid
-pub add_object-requires-clause-valid : goal.add_object-requires-clause-valid
-add_object-requires-clause-valid c =
-    let asked = c.in_ok-asked.asked in
-    subst (λ (s : Held). IsValid s.meta (created s.meta s.model c.args.name.now asked.class asked.number)) c.self.view_is
-    (valid_made _ _ _ (change.Create c.args.name.now c.args.class.now c.args.number) c.self.invariant.0 c.self.invariant.1 c.in_ok-asked.ensures.made)
+-- the graph does what the store is to do
+pub invariant_of-self : goal.invariant_of-self
+invariant_of-self c = valid_still _ _ _ _ c.create.ensures c.self.invariant
+
+pub returns : goal.returns
+returns c = makes_seen _ _ _ _ _ c.self.view_is c.create.ensures

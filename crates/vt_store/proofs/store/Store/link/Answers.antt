@@ -1,19 +1,9 @@
-use Rattle.std.proofs.Common.{◌≡◌, ◌∙◌, subst}
-use Rattle.std.specs.Prelude.{Ok}
-use Rattle.vt_meta.specs.Model.{Model}
-use Rattle.vt_meta.specs.Valid.{IsValid}
-use Rattle.vt_meta.specs.declared.change.Change.TheVariants as change
-use Rattle.vt_graph.specs.Held.{Held}
-use Rattle.vt_store.specs.Inside.Asking.{link_effect}
-use Rattle.vt_store.proofs.StoreLemmas.{valid_made}
-use Rattle.vt_store.proofs.LinkageLemmas.{link_made}
+use Rattle.vt_store.proofs.MakesLemmas.{valid_still, makes_seen}
 use Rattle.vt_store.proofs.store.Store.link.Goals as goal
 
--- what is asked for leaves the model valid
-pub make-requires-clause-valid : goal.make-requires-clause-valid
-make-requires-clause-valid c =
-    let s = c.self.inside.graph in
-    let asked = c.in_ok-asked.asked in
-    subst (λ (h : Held). (after : Model) → link_effect h.meta h.model asked ≡ Ok after → IsValid h.meta after) c.self.view_is
-    (λ after made. valid_made s.meta s.model after (change.Link c.args.name.now c.args.reference.now c.args.target.now) c.self.invariant.0 c.self.invariant.1
-    (link_made s.meta s.model c.args.name.now c.args.reference.now c.args.target.now asked c.in_ok-asked.ensures.asked c.in_ok-asked.ensures.passes ∙ made))
+-- the graph does what the store is to do
+pub invariant_of-self : goal.invariant_of-self
+invariant_of-self c = valid_still _ _ _ _ c.link.ensures c.self.invariant
+
+pub returns : goal.returns
+returns c = makes_seen _ _ _ _ _ c.self.view_is c.link.ensures

@@ -1,14 +1,9 @@
-use Rattle.std.proofs.Common.{subst}
-use Rattle.vt_meta.specs.Assigning.{with_default_value}
-use Rattle.vt_meta.specs.Valid.{IsValid}
-use Rattle.vt_meta.specs.declared.change.Change.TheVariants as change
-use Rattle.vt_graph.specs.Held.{Held}
-use Rattle.vt_store.proofs.StoreLemmas.{valid_made}
+use Rattle.vt_store.proofs.MakesLemmas.{valid_still, makes_seen}
 use Rattle.vt_store.proofs.store.Store.set.Goals as goal
 
--- what is asked for leaves the model valid
-pub assign-requires-clause-valid : goal.assign-requires-clause-valid
-assign-requires-clause-valid c =
-    let asked = c.in_ok-asked.asked in
-    subst (λ (s : Held). IsValid s.meta (with_default_value s.model asked.object asked.attribute asked.value)) c.self.view_is
-    (valid_made _ _ _ (change.Set c.args.name.now c.args.attribute.now c.args.value.now) c.self.invariant.0 c.self.invariant.1 c.in_ok-asked.ensures.made)
+-- the graph does what the store is to do
+pub invariant_of-self : goal.invariant_of-self
+invariant_of-self c = valid_still _ _ _ _ c.set.ensures c.self.invariant
+
+pub returns : goal.returns
+returns c = makes_seen _ _ _ _ _ c.self.view_is c.set.ensures

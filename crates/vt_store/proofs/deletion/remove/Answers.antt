@@ -8,7 +8,7 @@ use Rattle.vt_store.specs.Inside.Kept.{deletion_edit, waiting_place}
 use Rattle.vt_store.specs.Inside.Waiting.{HasClasses}
 use Rattle.vt_store.proofs.Deleting.Waiting.{buries_meta, buries_of}
 use Rattle.vt_store.proofs.Deleting.Whole.{links_left, values_had, values_left, can_bury, is_deleted}
-use Rattle.vt_store.proofs.deletion.delete.Goals as goal
+use Rattle.vt_store.proofs.deletion.remove.Goals as goal
 
 -- ---- the model on the way
 
