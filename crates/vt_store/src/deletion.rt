@@ -1,23 +1,22 @@
 // What Delete does: an object goes with all that is in it, their values, and the links that touch
 // them.
-ghost use Rattle.std.specs.Prelude.{◌≡◌, ◌≤◌, ◌+◌, ◌++◌, ◌∷◌, [], All, IfOk, IsSome, OnOk, OnErr, filter, length, map};
+ghost use Rattle.std.specs.Prelude.{◌≡◌, ◌≤◌, ◌+◌, ◌++◌, ◌∷◌, [], IfOk, IsSome, OnOk, OnErr, filter, length, map};
 ghost use Rattle.std.specs.List.{filter_map, flat_map};
 ghost use Rattle.vt_meta.specs.Containing.{is_inside};
 ghost use Rattle.vt_meta.specs.Deleting.{deleted};
 ghost use Rattle.vt_meta.specs.Valid.{IsValid};
 ghost use Rattle.vt_graph.specs.Asked.{live_at};
-ghost use Rattle.vt_graph.specs.Having.{HasAttribute};
 ghost use Rattle.vt_graph.specs.Room.{KeepsRoom};
 ghost use Rattle.vt_store.specs.Edits.{edit_of};
-ghost use Rattle.vt_store.specs.Inside.Assigned.{without_values};
-ghost use Rattle.vt_store.specs.Inside.Levels.{contained_in, children, level_below, levels_from, numbers, objects_inside, IsArranged, leaving, coming, links_of, touches, AddsLinksAt, CollectsLinks, value_of, values_of, IsBare, CanBury};
+ghost use Rattle.vt_store.specs.Inside.Levels.{contained_in, children, level_below, levels_from, numbers, objects_inside, IsArranged, link_on, links_of, touches, AddsLinksAt, CollectsLinks, value_of, values_of, IsBare, CanBury};
 ghost use Rattle.vt_slots.specs.Ends.{number_order};
 ghost use Rattle.vt_store.specs.Inside.Waiting.{AddsBuried, BuriesAll, HasClasses};
 
-use crate::displaced::arrange;
+use crate::displaced::{arrange, link_on};
 use crate::edit::Edit;
 use crate::references::is_containment;
 use crate::relinking::drop_back;
+use crate::reverting::take_values;
 use std::alloc::Global;
 use vt_base::{List, NoMemory, ObjId, Plain, RefId, Roomy};
 use vt_graph::{Buried, Graph};
@@ -99,56 +98,31 @@ fn objects_inside(graph: &Graph, alloc: Global, o: ObjId) -> Result<Vec<ObjId>, 
 
 // ---- the links that touch them
 
-fn add_leaving(
+fn add_ends(
     links: &mut Vec<Link>,
+    side: Side,
     x: ObjId,
     reference: RefId,
-    targets: &[ObjId],
+    others: &[ObjId],
 ) -> Result<(), NoMemory>
-    ensures { OnOk result (links.new.items ≡ links.old.items ++ map (leaving x reference) targets.now) }
+    ensures { OnOk result (links.new.items ≡ links.old.items ++ map (link_on side x reference) others.now) }
 {
-    for target in targets {
-        links.push(Link {
-            source: x,
-            reference,
-            target: *target,
-        })?;
+    for other in others {
+        links.push(link_on(side, x, reference, *other))?;
     }
     Ok(())
 }
 
-fn add_coming(
+fn add_all_ends(
     links: &mut Vec<Link>,
+    side: Side,
     x: ObjId,
-    reference: RefId,
-    sources: &[ObjId],
+    lists: &[EndList],
 ) -> Result<(), NoMemory>
-    ensures { OnOk result (links.new.items ≡ links.old.items ++ map (coming x reference) sources.now) }
-{
-    for source in sources {
-        links.push(Link {
-            source: *source,
-            reference,
-            target: x,
-        })?;
-    }
-    Ok(())
-}
-
-fn add_outgoing(links: &mut Vec<Link>, x: ObjId, lists: &[EndList]) -> Result<(), NoMemory>
-    ensures { OnOk result (links.new.items ≡ links.old.items ++ links_of (leaving x) lists.now) }
+    ensures { OnOk result (links.new.items ≡ links.old.items ++ links_of (link_on side x) lists.now) }
 {
     for list in lists {
-        add_leaving(links, x, list.reference(), list.objects())?;
-    }
-    Ok(())
-}
-
-fn add_incoming(links: &mut Vec<Link>, x: ObjId, lists: &[EndList]) -> Result<(), NoMemory>
-    ensures { OnOk result (links.new.items ≡ links.old.items ++ links_of (coming x) lists.now) }
-{
-    for list in lists {
-        add_coming(links, x, list.reference(), list.objects())?;
+        add_ends(links, side, x, list.reference(), list.objects())?;
     }
     Ok(())
 }
@@ -157,8 +131,8 @@ fn add_incoming(links: &mut Vec<Link>, x: ObjId, lists: &[EndList]) -> Result<()
 fn add_links_at(links: &mut Vec<Link>, graph: &Graph, x: ObjId) -> Result<(), NoMemory>
     ensures { OnOk result (AddsLinksAt graph.now.model x links.old.items links.new.items) }
 {
-    add_outgoing(links, x, graph.ends(x, Side::Outgoing))?;
-    add_incoming(links, x, graph.ends(x, Side::Incoming))?;
+    add_all_ends(links, Side::Outgoing, x, graph.ends(x, Side::Outgoing))?;
+    add_all_ends(links, Side::Incoming, x, graph.ends(x, Side::Incoming))?;
     Ok(())
 }
 
@@ -254,18 +228,6 @@ fn values_inside(
 }
 
 // ---- the steps
-
-// Takes values of live objects out.
-fn take_values(graph: &mut Graph, values: &[AttributeValue])
-    requires had { All (λ t. HasAttribute graph.old.meta graph.old.model t.object t.attribute) values.now }
-    ensures meta { graph.new.meta ≡ graph.old.meta }
-    ensures taken { graph.new.model ≡ without_values graph.old.model values.now }
-    ensures places { graph.new.places ≡ graph.old.places }
-{
-    for t in values {
-        graph.put_value(t.object, t.attribute, None);
-    }
-}
 
 // Buries an object, which then waits with the others.
 fn bury(graph: &mut Graph, x: ObjId, waiting: &mut Roomy<Buried>)
