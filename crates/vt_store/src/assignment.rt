@@ -63,11 +63,7 @@ fn set_asked(
 
 // The assignment that an unset is.
 #[tactic(auto, using(crate::proofs::AssignmentLemmas::unset_not_live, crate::proofs::AssignmentLemmas::unset_no_feature, crate::proofs::AssignmentLemmas::unset_no_attribute, crate::proofs::AssignmentLemmas::unset_made, crate::proofs::AssignmentLemmas::has_attribute))]
-fn unset_asked(
-    graph: &Graph,
-    name: &Text,
-    attribute: &Text,
-) -> Result<Assignment, Refusal>
+fn unset_asked(graph: &Graph, name: &Text, attribute: &Text) -> Result<Assignment, Refusal>
     requires valid { IsValid graph.now.meta graph.now.model }
     ensures made { IfOk result (λ a.
         effect graph.now.meta graph.now.model (change.Unset name.now attribute.now)

@@ -78,7 +78,14 @@ fn add_held(
     ensures { OnOk result (found.new.items ≡ found.old.items ++ held_from (λ (e : EndList). e.reference) (λ e. e.objects) meta.now target list.now) }
 {
     if is_containment(meta, list.reference()) {
-        add_others(found, meta, Side::Incoming, target, list.reference(), list.objects())?;
+        add_others(
+            found,
+            meta,
+            Side::Incoming,
+            target,
+            list.reference(),
+            list.objects(),
+        )?;
     }
     Ok(())
 }
@@ -110,10 +117,24 @@ fn find_candidates(
 {
     let mut found = Vec::new(alloc);
     if !is_many(meta, made.reference) {
-        add_others(&mut found, meta, Side::Outgoing, made.source, made.reference, targets)?;
+        add_others(
+            &mut found,
+            meta,
+            Side::Outgoing,
+            made.source,
+            made.reference,
+            targets,
+        )?;
     }
     if has_single_opposite(meta, made.reference) {
-        add_others(&mut found, meta, Side::Incoming, made.target, made.reference, sources)?;
+        add_others(
+            &mut found,
+            meta,
+            Side::Incoming,
+            made.target,
+            made.reference,
+            sources,
+        )?;
     }
     if is_containment(meta, made.reference) {
         add_containers(&mut found, meta, made.target, lists)?;

@@ -68,10 +68,7 @@ impl Dice {
 
     fn word(&mut self, words: &[&'static str]) -> &'static str {
         let roll = self.roll() as usize;
-        words
-            .get(roll % words.len().max(1))
-            .copied()
-            .unwrap_or("")
+        words.get(roll % words.len().max(1)).copied().unwrap_or("")
     }
 
     fn number(&mut self) -> u32 {

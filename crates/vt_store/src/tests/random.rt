@@ -48,9 +48,10 @@ fn kind_of(change: &Change) -> &'static str {
 }
 
 fn is_linked(store: &Store, name: &Text, reference: &Text, target: &Text) -> bool {
-    let (Seen::Live(o), Seen::Live(t)) =
-        (store.find_name(name.as_str()), store.find_name(target.as_str()))
-    else {
+    let (Seen::Live(o), Seen::Live(t)) = (
+        store.find_name(name.as_str()),
+        store.find_name(target.as_str()),
+    ) else {
         return false;
     };
     let Some(class) = store.class_of(o) else {
@@ -131,10 +132,7 @@ fn note(
 ) -> Result<(), Fail> {
     let kind = kind_of(change);
     let (line, good) = match refused {
-        None => (
-            format!(in alloc; "{kind}: made\n")?,
-            is_seen(store, change),
-        ),
+        None => (format!(in alloc; "{kind}: made\n")?, is_seen(store, change)),
         Some(why) => (
             format!(in alloc; "{kind}: {why:?}\n")?,
             picture(alloc, store)?.as_str() == before,
@@ -196,12 +194,7 @@ fn refusal_of<T>(step: &Result<T, Refusal>) -> Option<Refusal> {
 // Makes the changes one after the other, and takes them back, the last first.
 #[cycle(run)]
 #[tactic(auto, using(crate::proofs::BackLemmas::fits_step, crate::proofs::BackLemmas::stays_step, crate::proofs::BackLemmas::stays_still))]
-fn run(
-    alloc: Global,
-    store: &mut Store,
-    changes: &[Change],
-    notes: &mut String,
-) -> Result<(), Fail>
+fn run(alloc: Global, store: &mut Store, changes: &[Change], notes: &mut String) -> Result<(), Fail>
     ensures { OnOk result (Stays store.old store.new) }
 {
     let Some((change, rest)) = changes.split_first() else {
