@@ -47,6 +47,7 @@ pub(crate) fn drop_back(graph: &mut Graph, gone: &[Link])
 fn add_with_back(graph: &mut Graph, link: Link) -> Result<(), NoMemory>
     requires live { EndsLive graph.old.model link }
     requires fresh { NoneStands graph.old.meta graph.old.model link }
+    requires sound { IsSound graph.old.meta }
     requires valid { IsValid graph.old.meta graph.old.model }
     ensures meta { graph.new.meta ≡ graph.old.meta }
     ensures added { OnOk result (graph.new.model ≡ record graph.old.model { links = with_link graph.old.meta graph.old.model.links link }) }

@@ -1,5 +1,5 @@
 // Taking back what a change did.
-ghost use Rattle.std.specs.Prelude.{◌≡◌, ◌<◌, ◌≤◌, ◌++◌, map, All, IsSome};
+ghost use Rattle.std.specs.Prelude.{◌≡◌, ◌<◌, ◌≤◌, ◌++◌, map, All, Contains};
 ghost use Rattle.vt_graph.specs.Having.{HasAttribute};
 ghost use Rattle.vt_graph.specs.Room.{KeepsRoom, HasRoom, HasRoomFor};
 ghost use Rattle.vt_slots.specs.declared.slot.Side.TheVariants.{Outgoing, Incoming};
@@ -91,6 +91,7 @@ fn settle(graph: &mut Graph, next: u32, created: Option<Object>, deleted: List<B
 // Adds a link for which there is room.
 fn put_link(graph: &mut Graph, link: Link)
     requires live { EndsLive graph.old.model link }
+    requires fresh { Contains graph.old.model.links link → ⊥ }
     requires out { HasRoomFor graph.old link.source Outgoing link.reference }
     requires into { HasRoomFor graph.old link.target Incoming link.reference }
     ensures meta { graph.new.meta ≡ graph.old.meta }
