@@ -180,7 +180,8 @@ pub(crate) fn stands(graph: &Graph, link: &Link) -> bool
     )
 }
 
-fn holder_in(meta: &Metamodel, lists: &[EndList]) -> Option<ObjId>
+// The first object of the first list of a containment that isn't empty.
+pub(crate) fn holder_in(meta: &Metamodel, lists: &[EndList]) -> Option<ObjId>
     ensures { result ≡ holder_in (λ (e : EndList). e.reference) (λ e. e.objects) meta.now lists.now }
 {
     for list in lists {

@@ -12,7 +12,7 @@ ghost use Rattle.vt_meta.specs.Valid.{IsValid};
 ghost use Rattle.vt_graph.specs.Room.{KeepsRoom};
 ghost use Rattle.vt_store.specs.Inside.Displaced.{NoneStands, links_edit, without_link, EndsLive};
 
-use crate::displaced::{add_both, arrange, displaced, is_inside, stands};
+use crate::displaced::{add_both, arrange, displaced, holder_in, is_inside, stands};
 use crate::edit::Edit;
 use crate::fault::StoreFault;
 use crate::references::{is_containment, link_back, oriented};
@@ -20,6 +20,7 @@ use std::alloc::Global;
 use vt_base::{List, NoMemory};
 use vt_graph::Graph;
 use vt_meta::{Link, Metamodel, Refusal};
+use vt_slots::Side;
 
 // A link and its opposite, in order.
 #[tactic(auto, using(crate::proofs::Linking::Both::arranged_both))]
@@ -101,7 +102,14 @@ fn is_circular(graph: &Graph, link: &Link) -> bool
     requires valid { IsValid graph.now.meta graph.now.model }
     ensures { result ≡ is_circular graph.now.meta graph.now.model link.now }
 {
-    is_containment(graph.meta(), link.reference) && is_inside(graph, link.source, link.target)
+    if !is_containment(graph.meta(), link.reference) {
+        return false;
+    }
+    // Nothing is in what contains nothing, so a chain that is made from the top down takes no walks.
+    if holder_in(graph.meta(), graph.ends(link.target, Side::Outgoing)).is_none() {
+        return link.source == link.target;
+    }
+    is_inside(graph, link.source, link.target)
 }
 
 // An edit that changes nothing.
