@@ -44,6 +44,7 @@ const VALUES: [&str; 10] = [
 ];
 
 /// Numbers that look like chance, and the changes that they choose.
+#[derive(Drop)]
 pub(super) struct Dice {
     state: u64,
     first: u32,
