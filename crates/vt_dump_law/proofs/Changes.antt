@@ -1,10 +1,13 @@
 -- The changes of the document of a valid model make the model anew.
 use Rattle.std.proofs.Common.{◌≡◌, ℕ, ◌+◌, List, [], ◌∷◌, ◌++◌, map, refl, sym, ap, subst, ◌∙◌, arith, true, ◌⊎◌, inl, inr}
-use Rattle.std.specs.Prelude.{◌==◌, filter, flat_map, Contains, Ok}
+use Rattle.std.specs.Prelude.{◌==◌, filter, flat_map, Contains, Ok, IsUtf8}
+use Rattle.std.specs.List.{AllByRecursion}
 use Rattle.std.specs.Cmp.{IsTotalOrder}
 use Rattle.std.proofs.lemmas.Bool.{eqb-true, eq-eqb}
 use Rattle.std.proofs.lemmas.Cmp.{then_total, on_total, nat_cmp_total}
 use Rattle.std.proofs.lemmas.List.Elements.{All-nil, All-contains}
+use Rattle.vt_base.specs.declared.value.Value.{Value}
+use Rattle.vt_base.specs.declared.value.Value.TheVariants as value
 use Rattle.vt_model.specs.Metamodel.{Metamodel}
 use Rattle.vt_model.specs.Model.{Model, empty_model}
 use Rattle.vt_model.specs.Assigning.{value_order, is_value_of}
@@ -12,17 +15,18 @@ use Rattle.vt_model.specs.Linking.{link_order}
 use Rattle.vt_model.specs.Transaction.{transaction}
 use Rattle.vt_model.specs.Fits.{FitsAttribute, FitsReference, HasItsValues}
 use Rattle.vt_model.specs.Sound.{IsSound}
+use Rattle.vt_model.specs.Storable.{IsStorable, GivesStorable}
 use Rattle.vt_model.specs.Valid.{IsValid}
 use Rattle.vt_model.specs.declared.model.Object.{Object}
 use Rattle.vt_model.specs.declared.model.AttributeValue.{AttributeValue}
 use Rattle.vt_model.specs.declared.model.Link.{Link}
 use Rattle.vt_model.specs.declared.change.Change.{Change}
 use Rattle.vt_model.specs.declared.change.Change.TheVariants as change
-use Rattle.vt_facts.proofs.MemberLemmas.{Contains-nil, Contains-filter, Contains-from_filter}
+use Rattle.vt_facts.proofs.MemberLemmas.{Contains-head, Contains-behind, Contains-nil, Contains-filter, Contains-from_filter}
 use Rattle.vt_model.proofs.Valid.{IsValid-effect}
 use Rattle.vt_model.proofs.Valid.Empty.{IsValid-empty_model}
 use Rattle.vt_model_json.specs.Loading.{creations, assignment, assignments, linkings, changes_of}
-use Rattle.vt_model_json.specs.Dump.{name_of, links_of, target_names}
+use Rattle.vt_model_json.specs.Dump.{attribute_name, literal_name, name_of, links_of, target_names}
 use Rattle.vt_dump_law.proofs.Made.{Makes, Makes-append, changes_from-Makes}
 use Rattle.vt_dump_law.proofs.Lists.{map_map_same, flat_map_same, flat_map_map, Contains-flat_map, Contains-flat_map_cases, some_counted, same_members}
 use Rattle.vt_dump_law.proofs.Names.{name_of-live}
@@ -38,10 +42,42 @@ use Rattle.vt_dump_law.proofs.Shape.{entry_of, document_of, whole_document}
 link_order_total : IsTotalOrder link_order
 link_order_total = then_total (on_total (λ l. l.source.0) nat_cmp_total) (then_total (on_total (λ l. l.reference.0) nat_cmp_total) (on_total (λ l. l.target.0) nat_cmp_total))
 
+-- ---- what changes give can be held
+
+abbrev AllGive : List Change → Type 0
+AllGive changes = AllByRecursion GivesStorable changes
+
+-- one list of changes, and then another
+AllGive-append : (cs ds : List Change) → AllGive cs → AllGive ds → AllGive (cs ++ ds)
+AllGive-append [] ds first second = second
+AllGive-append (c ∷ cs) ds first second = (first.0, AllGive-append cs ds first.1 second)
+
+-- a creation gives no value
+AllGive-creations : (meta : Metamodel) (os : List Object) → AllGive (map (creation meta) os)
+AllGive-creations meta [] = tt
+AllGive-creations meta (o ∷ os) = (tt, AllGive-creations meta os)
+
+-- a value that can be held is given by one that can, a literal by its name
+gives-value : (meta : Metamodel) → ((e l : ℕ) → IsUtf8 (literal_name meta e l)) → (name attr : List ℕ) (v : Value) → IsStorable v → GivesStorable (assignment name attr (given_of meta v))
+gives-value meta texts name attr (value.Bool b) held = tt
+gives-value meta texts name attr (value.Int n) held = held
+gives-value meta texts name attr (value.Text s) held = held
+gives-value meta texts name attr (value.Enum e l) held = texts e l
+gives-value meta texts name attr (value.Obj o) held = tt
+
+-- so are all values
+AllGive-settings : (meta : Metamodel) → ((e l : ℕ) → IsUtf8 (literal_name meta e l)) → (g : Model) (values : List AttributeValue)
+    → ((t : AttributeValue) → Contains values t → IsStorable t.value) → AllGive (map (setting meta g) values)
+AllGive-settings meta texts g [] held = tt
+AllGive-settings meta texts g (t ∷ values) held = (
+    gives-value meta texts (name_of g t.object) (attribute_name meta t.attribute) t.value (held t (Contains-head t values)),
+    AllGive-settings meta texts g values (λ u there. held u (Contains-behind t u values there)),
+  )
+
 -- changes that are made keep a model valid
-IsValid-Makes : (meta : Metamodel) (g after : Model) (cs : List Change) → IsSound meta → IsValid meta g → Makes meta g cs after → IsValid meta after
-IsValid-Makes meta g after [] sound valid made = subst (IsValid meta) made valid
-IsValid-Makes meta g after (c ∷ cs) sound valid made = IsValid-Makes meta made.0 after cs sound (IsValid-effect meta g made.0 c sound valid made.1) made.2
+IsValid-Makes : (meta : Metamodel) (g after : Model) (cs : List Change) → IsSound meta → IsValid meta g → AllGive cs → Makes meta g cs after → IsValid meta after
+IsValid-Makes meta g after [] sound valid give made = subst (IsValid meta) made valid
+IsValid-Makes meta g after (c ∷ cs) sound valid give made = IsValid-Makes meta made.0 after cs sound (IsValid-effect meta g made.0 c sound valid give.0 made.1) give.1 made.2
 
 -- ---- the changes of the document
 
@@ -142,7 +178,7 @@ module _ (meta : Metamodel) (sound : IsSound meta) (g : Model) (valid : IsValid 
 
 -- ---- the model that they make
 
-module _ (meta : Metamodel) (sound : IsSound meta) (classes : HasClassNames meta) (literals : HasLiteralNames meta) (g : Model) (valid : IsValid meta g) where
+module _ (meta : Metamodel) (sound : IsSound meta) (classes : HasClassNames meta) (literals : HasLiteralNames meta) (texts : (e l : ℕ) → IsUtf8 (literal_name meta e l)) (g : Model) (valid : IsValid meta g) where
   abbrev values : List AttributeValue
   values = all_values meta sound g valid
 
@@ -164,9 +200,14 @@ module _ (meta : Metamodel) (sound : IsSound meta) (classes : HasClassNames meta
   made_so_far : Makes meta empty_model (map (creation meta) g.live ++ map (setting meta g) values) assigned.after
   made_so_far = Makes-append meta empty_model objects.after assigned.after (map (creation meta) g.live) (map (setting meta g) values) objects.made assigned.made
 
+  -- what they give can be held
+  give_so_far : AllGive (map (creation meta) g.live ++ map (setting meta g) values)
+  give_so_far = AllGive-append (map (creation meta) g.live) (map (setting meta g) values) (AllGive-creations meta g.live)
+      (AllGive-settings meta texts g values (λ t there. (All-contains (FitsAttribute meta g.live) g.values t valid.values_fit (from-all_values meta sound g valid t there)).storable))
+
   -- and the model is valid
   valid_so_far : IsValid meta assigned.after
-  valid_so_far = IsValid-Makes meta empty_model assigned.after (map (creation meta) g.live ++ map (setting meta g) values) sound (IsValid-empty_model meta) made_so_far
+  valid_so_far = IsValid-Makes meta empty_model assigned.after (map (creation meta) g.live ++ map (setting meta g) values) sound (IsValid-empty_model meta) give_so_far made_so_far
 
   -- a default has made way for the model's own value
   own-value : (t : AttributeValue) → Contains assigned.after.values t → Contains g.values t

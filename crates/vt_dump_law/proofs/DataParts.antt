@@ -94,7 +94,7 @@ module _ (meta : Metamodel) (named : IsNamed meta) where
       by (Some info) at = All-slice_get (λ (i : RefInfo). IsUtf8 i.name) meta.references r info named.references at
 
   -- and of a literal
-  literal_name-utf8 : (e l : ℕ) → IsUtf8 (literal_name meta e l)
+  pub literal_name-utf8 : (e l : ℕ) → IsUtf8 (literal_name meta e l)
   literal_name-utf8 e l = by (slice_get meta.enums e) refl
     where
       within : (literals : List (List ℕ)) → All IsUtf8 literals → (n : Option (List ℕ)) → slice_get literals l ≡ n → IsUtf8 (unwrap_or n [])

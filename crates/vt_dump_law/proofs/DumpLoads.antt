@@ -10,6 +10,7 @@ use Rattle.vt_model_json.specs.Dump.{model_data, dump}
 use Rattle.vt_model_json.specs.Loading.{finished, judged, shaped, loaded}
 use Rattle.vt_dump_law.specs.Writable.{IsWritable}
 use Rattle.vt_dump_law.proofs.ReadBack.{json_of-compact_text}
+use Rattle.vt_dump_law.proofs.DataParts.{literal_name-utf8}
 use Rattle.vt_dump_law.proofs.DataText.{IsReadable-model_data, depth-model_data}
 use Rattle.vt_dump_law.proofs.Shape.{document_shape-model_data}
 use Rattle.vt_dump_law.proofs.Changes.{transaction-live}
@@ -25,7 +26,7 @@ pub loaded-dump : (bytes : List ℕ) (meta : Metamodel) (g : Model) → meta_of 
 unfolding loaded
 loaded-dump bytes meta g read valid writable =
     let named = IsNamed-meta_of bytes meta read in
-    let made = transaction-live meta named.sound named.class_names named.literal_names g valid in
+    let made = transaction-live meta named.sound named.class_names named.literal_names (literal_name-utf8 meta named) g valid in
     ap (shaped meta) (json_of-dump meta g named valid writable)
     ∙ ap (judged meta) (document_shape-model_data meta named.sound g valid writable)
     ∙ ap (finished g.next) made.1

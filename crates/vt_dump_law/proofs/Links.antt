@@ -166,7 +166,7 @@ module _ (meta : Metamodel) (sound : IsSound meta) (g : Model) (valid : IsValid 
       live = chosen-live (stands h x) ∙ has.live;
       gone = chosen-gone (stands h x) ∙ has.gone;
       values = chosen-values (stands h x) ∙ has.values;
-      valid = IsValid-effect meta h (linked meta h x) (linking meta g x) sound has.valid effect-linking;
+      valid = IsValid-effect meta h (linked meta h x) (linking meta g x) sound has.valid tt effect-linking;
       among = linked-among (stands h x);
     }
 

@@ -146,7 +146,7 @@ module _ (meta : Metamodel) (sound : IsSound meta) (classes : HasClassNames meta
       objects = ap (λ l. l ++ o ∷ []) has.objects;
       gone = has.gone;
       links = has.links;
-      valid = IsValid-effect meta h (created meta h o.name o.class o.number.0) (creation meta o) sound has.valid effect-creation;
+      valid = IsValid-effect meta h (created meta h o.name o.class o.number.0) (creation meta o) sound has.valid tt effect-creation;
       defaults = All-append (HasDefault meta g.live) h.values (defaults_from meta o.class o.number 0 meta.attributes) has.defaults defaults-new;
     }
 
