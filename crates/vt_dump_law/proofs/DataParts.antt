@@ -22,7 +22,7 @@ use Rattle.vt_model.specs.declared.metamodel.AttrInfo.{AttrInfo}
 use Rattle.vt_model.specs.declared.metamodel.RefInfo.{RefInfo}
 use Rattle.vt_facts.proofs.MemberLemmas.{Contains-head, Contains-behind}
 use Rattle.vt_model_json.specs.Dump.{class_name, attribute_name, literal_name, value_data, texts}
-use Rattle.vt_dump_law.specs.Writable.{IsWritableValue}
+use Rattle.vt_model.specs.Storable.{IsStorable}
 use Rattle.vt_dump_law.proofs.Links.{reference_name}
 use Rattle.vt_dump_law.proofs.Spelled.{by_key, spelled}
 use Rattle.vt_dump_law.proofs.Readable.{KeysRise, IsReadable, AreReadable, MembersAreReadable}
@@ -108,7 +108,7 @@ module _ (meta : Metamodel) (named : IsNamed meta) where
   -- ---- values
 
   -- a value that can be written is read back
-  pub IsReadable-value_data : (v : Value) → IsWritableValue v → IsReadable (value_data meta v)
+  pub IsReadable-value_data : (v : Value) → IsStorable v → IsReadable (value_data meta v)
   IsReadable-value_data (value.Bool b) fits = tt
   IsReadable-value_data (value.Int (pos n)) fits = omega (arith, fits)
   IsReadable-value_data (value.Int (negsuc n)) fits = fits

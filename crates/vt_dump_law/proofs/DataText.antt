@@ -10,11 +10,12 @@ use Rattle.serde_json.specs.Data.{object, no_members, depth, items_depth, member
 use Rattle.vt_json.specs.Names.{is_name, continues_object_name}
 use Rattle.vt_model.specs.Metamodel.{Metamodel}
 use Rattle.vt_model.specs.Model.{Model}
+use Rattle.vt_model.specs.Fits.{FitsAttribute}
 use Rattle.vt_model.specs.Valid.{IsValid}
 use Rattle.vt_model.specs.declared.model.Object.{Object}
 use Rattle.vt_facts.proofs.MemberLemmas.{Contains-head, Contains-behind}
 use Rattle.vt_model_json.specs.Dump.{attribute_members, values_of, links_of, target_names, link_members, object_data, objects_data, model_data}
-use Rattle.vt_dump_law.specs.Writable.{IsWritableValue, IsWritable}
+use Rattle.vt_dump_law.specs.ObjectNames.{HasObjectNames}
 use Rattle.vt_dump_law.proofs.Links.{reference_name}
 use Rattle.vt_dump_law.proofs.Spelled.{by_key, by_key_total, IsStrictlySortedBy-placed}
 use Rattle.vt_dump_law.proofs.Attributes.{value_key, data_of_value, values_by_key, own-values, attribute_members-spelled, from-values_by_key}
@@ -25,7 +26,7 @@ use Rattle.vt_dump_law.proofs.PlainNames.{below-object_name, IsUtf8-is_name}
 use Rattle.vt_dump_law.proofs.MetaNames.{IsNamed}
 use Rattle.vt_dump_law.proofs.DataParts.{none-rise, KeysRise-spelled, MembersAreReadable-spelled, members_depth-spelled, class_name-utf8, attribute_name-utf8, reference_name-utf8, IsReadable-value_data, depth-value_data, AreReadable-texts, items_depth-texts}
 
-module _ (meta : Metamodel) (named : IsNamed meta) (g : Model) (valid : IsValid meta g) (writable : IsWritable g) where
+module _ (meta : Metamodel) (named : IsNamed meta) (g : Model) (valid : IsValid meta g) (names : HasObjectNames g) where
   -- ---- an object
 
   module _ (o : Object) (live : Contains g.live o) where
@@ -36,8 +37,8 @@ module _ (meta : Metamodel) (named : IsNamed meta) (g : Model) (valid : IsValid 
           (IsStrictlySortedBy-placed (by_key (value_key meta)) (by_key_total (value_key meta)) [] (values_of g o.number) (none-rise (by_key (value_key meta)))),
       MembersAreReadable-spelled (value_key meta) (data_of_value meta) (values_by_key meta g o) (λ t there. (
         attribute_name-utf8 meta named t.attribute,
-        IsReadable-value_data meta named t.value (All-contains (λ t. IsWritableValue t.value) g.values t writable.values
-            (own-values meta named.sound g valid o live t (from-values_by_key meta named.sound g valid o live t there)).0),
+        IsReadable-value_data meta named t.value (All-contains (FitsAttribute meta g.live) g.values t valid.values_fit
+            (own-values meta named.sound g valid o live t (from-values_by_key meta named.sound g valid o live t there)).0).storable,
       )),
     )
 
@@ -49,7 +50,7 @@ module _ (meta : Metamodel) (named : IsNamed meta) (g : Model) (valid : IsValid 
       MembersAreReadable-spelled (reference_name meta) (data_of_reference g (links_of g o.number)) (references_by_key meta g o) (λ r there. (
         reference_name-utf8 meta named r,
         AreReadable-texts (target_names g r (links_of g o.number))
-            (λ n among. IsUtf8-is_name continues_object_name below-object_name n (target-form meta named.sound g valid writable o r n among)),
+            (λ n among. IsUtf8-is_name continues_object_name below-object_name n (target-form meta named.sound g valid names o r n among)),
       )),
     )
 
@@ -62,7 +63,7 @@ module _ (meta : Metamodel) (named : IsNamed meta) (g : Model) (valid : IsValid 
     IsReadable-object_data : IsReadable (object_data meta g o)
     IsReadable-object_data =
         let below : o.number.0 < g.next = All-contains (λ p. p.number.0 < g.next) g.live o valid.numbers_below live in
-        let form = All-contains (λ o. is_name continues_object_name o.name ≡ true) g.live o writable.names live in
+        let form = All-contains (λ o. is_name continues_object_name o.name ≡ true) g.live o names live in
         let fits : o.number.0 < 2 ^ 64 = omega (arith, below, valid.next_in_range) in (
           keys-rise,
           (

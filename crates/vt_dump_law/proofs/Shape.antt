@@ -13,7 +13,8 @@ use Rattle.vt_json.specs.Shape.{items_in, list_of, entries_of, entries_in}
 use Rattle.vt_model.specs.Metamodel.{Metamodel}
 use Rattle.vt_model.specs.Model.{Model}
 use Rattle.vt_model.specs.Sound.{IsSound}
-use Rattle.vt_model.specs.Fits.{FitsReference}
+use Rattle.vt_model.specs.Fits.{FitsAttribute, FitsReference}
+use Rattle.vt_model.specs.Storable.{IsStorable}
 use Rattle.vt_model.specs.Valid.{IsValid, object_order}
 use Rattle.vt_model.specs.declared.model.Object.{Object}
 use Rattle.vt_model.specs.declared.model.AttributeValue.{AttributeValue}
@@ -21,7 +22,7 @@ use Rattle.vt_model.specs.declared.model.Link.{Link}
 use Rattle.vt_facts.proofs.MemberLemmas.{Contains-head, Contains-behind, Contains-from_filter}
 use Rattle.vt_model_json.specs.ModelDocument.{entry_shape, object_shape, rise, above_all, with_next, document_shape}
 use Rattle.vt_model_json.specs.Dump.{class_name, name_of, value_data, attribute_members, values_of, links_of, target_names, texts, link_members, object_data, objects_data, model_data}
-use Rattle.vt_dump_law.specs.Writable.{IsWritableValue, IsWritable}
+use Rattle.vt_dump_law.specs.ObjectNames.{HasObjectNames}
 use Rattle.vt_model_json.specs.declared.document.Entry.{Entry}
 use Rattle.vt_model_json.specs.declared.document.ObjectDocument.{ObjectDocument}
 use Rattle.vt_model_json.specs.declared.document.ModelDocument.{ModelDocument}
@@ -57,7 +58,7 @@ whole_document meta g = record { next = g.next; objects = map (document_of meta 
 -- ---- values
 
 -- each value gives its entry
-pub entry_shape-value_data : (meta : Metamodel) (v : Value) → IsWritableValue v → entry_shape (value_data meta v) ≡ Some (record { given = given_of meta v })
+pub entry_shape-value_data : (meta : Metamodel) (v : Value) → IsStorable v → entry_shape (value_data meta v) ≡ Some (record { given = given_of meta v })
 entry_shape-value_data meta (value.Bool b) fits = refl
 entry_shape-value_data meta (value.Int (pos n)) fits = rw (lt-ltb n (2 ^ 63) fits) refl
 entry_shape-value_data meta (value.Int (negsuc n)) fits = refl
@@ -92,7 +93,7 @@ object_shape-members : (attributes links : Data) (class name : List ℕ) (n : �
     ≡ Some (record { name = name; class = class; number = Some n; attributes = entries; links = targets })
 object_shape-members attributes links class name n entries targets form are lead = rw (form, are, lead) refl
 
-module _ (meta : Metamodel) (sound : IsSound meta) (g : Model) (valid : IsValid meta g) (writable : IsWritable g) where
+module _ (meta : Metamodel) (sound : IsSound meta) (g : Model) (valid : IsValid meta g) (names : HasObjectNames g) where
   -- each target's name has the form of a name
   pub target-form : (o : Object) (r : ℕ) (name : List ℕ) → Contains (target_names g r (links_of g o.number)) name → is_name continues_object_name name ≡ true
   target-form o r name there =
@@ -101,7 +102,7 @@ module _ (meta : Metamodel) (sound : IsSound meta) (g : Model) (valid : IsValid 
       let among = Contains-from_filter (λ link. link.source.0 == o.number.0) g.links from.0 own.0 in
       let target = (All-contains (FitsReference meta g.live) g.links from.0 valid.links_fit among.0).target in
       let p : Object = record { number = from.0.target; name = target.is_live.name; class = target.own } in
-      let form = All-contains (λ o. is_name continues_object_name o.name ≡ true) g.live p writable.names target.is_live.there in
+      let form = All-contains (λ o. is_name continues_object_name o.name ≡ true) g.live p names target.is_live.there in
       subst (λ n. is_name continues_object_name n ≡ true) (sym (name_of-live meta g valid p target.is_live.there) ∙ from.2) form
 
   -- an object's data has the shape of its document
@@ -111,11 +112,11 @@ module _ (meta : Metamodel) (sound : IsSound meta) (g : Model) (valid : IsValid 
       (class_name meta o.class) o.name o.number.0
       (map (λ t. (value_key meta t, entry_of meta t)) (values_by_key meta g o))
       (map (λ r. (reference_name meta r, target_names g r (links_of g o.number))) (references_by_key meta g o))
-      (All-contains (λ o. is_name continues_object_name o.name ≡ true) g.live o writable.names live)
+      (All-contains (λ o. is_name continues_object_name o.name ≡ true) g.live o names live)
       (ap (entries_in entry_shape) (attribute_members-spelled meta sound g valid o live)
       ∙ entries_in-spelled (value_key meta) (data_of_value meta) entry_shape (entry_of meta) (values_by_key meta g o)
       (λ t there. entry_shape-value_data meta t.value
-      (All-contains (λ t. IsWritableValue t.value) g.values t writable.values (own-values meta sound g valid o live t (from-values_by_key meta sound g valid o live t there)).0)))
+      (All-contains (FitsAttribute meta g.live) g.values t valid.values_fit (own-values meta sound g valid o live t (from-values_by_key meta sound g valid o live t there)).0).storable))
       (ap (entries_in (list_of object_name)) (link_members-spelled meta sound g valid o live)
       ∙ entries_in-spelled (reference_name meta) (data_of_reference g (links_of g o.number)) (list_of object_name) (λ r. target_names g r (links_of g o.number)) (references_by_key meta g o)
       (λ r there. items_in-texts (target_names g r (links_of g o.number)) (target-form o r)))

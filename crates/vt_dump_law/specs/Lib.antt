@@ -1,2 +1,2 @@
 -- words of public clauses; read them from the top
-pub mod Writable
+pub mod ObjectNames

@@ -1,6 +1,6 @@
 //! What a dump loads to: a law on the definitions of `vt_model_json`, with its proof.
 //!
-//! It stands on `vt_meta` and `vt_model_json`, and nothing stands on it. Read `specs/Writable.antt`,
+//! It stands on `vt_meta` and `vt_model_json`, and nothing stands on it. Read `specs/ObjectNames.antt`,
 //! then `dump_loads_back`.
 #![tactic(auto)]
 
