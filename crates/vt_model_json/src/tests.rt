@@ -1,7 +1,4 @@
 //! Documents with the answer that each must give, and the rows of the models that they make.
-ghost use Rattle.std.specs.Prelude.{IfOk};
-ghost use Rattle.vt_model.specs.Sound.{IsSound};
-
 use crate::{ModelFault, read_model, write_model};
 use std::alloc::Global;
 use std::process::Abort;
@@ -13,16 +10,12 @@ mod faults;
 mod rows;
 
 // The metamodel that a document declares.
-fn metamodel(alloc: Global, text: &str) -> Result<Metamodel, Fail>
-    ensures sound { IfOk result IsSound }
-{
+fn metamodel(alloc: Global, text: &str) -> Result<Metamodel, Fail> {
     Ok(read_meta(alloc, text.as_bytes())?)
 }
 
 // The dump of the model that a document makes, or the document's fault.
-fn answer(alloc: Global, meta: &Metamodel, text: &[u8]) -> Result<String, Fail>
-    requires sound { IsSound meta.now }
-{
+fn answer(alloc: Global, meta: &Metamodel, text: &[u8]) -> Result<String, Fail> {
     let store = match read_model(alloc, meta, text) {
         Ok((store, _)) => store,
         Err(ModelFault::NotJson) => return Ok(String::from_str(alloc, "no JSON")?),
