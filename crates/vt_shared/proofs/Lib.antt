@@ -1,6 +1,6 @@
--- the count's steps, and what is lent of an owner, for any value
-pub mod Counting
-pub mod Lent
--- the same at a block, and what each walk begins and ends with
-pub mod Steps
-pub mod Frame
+-- owners come and go, and lend, whatever they own
+pub mod Census
+pub mod Lending
+-- the same at a block, and the thread's token
+pub mod Memory
+pub mod Thread

@@ -5,10 +5,10 @@
 #![tactic(auto)]
 
 // The pointer, and what its callers ask of it.
-mod owner;
+mod pointer;
 
 // The pointer, and what its callers ask of it.
-pub use owner::Shared;
+pub use pointer::Shared;
 
 #[cfg(test)]
 mod tests;
