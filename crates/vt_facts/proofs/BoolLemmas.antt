@@ -1,5 +1,7 @@
 -- Tests that hold together, and one or the other.
 use Rattle.std.proofs.Common.{◌≡◌, Bool, true, false, not, ◌&&◌, ◌||◌, refl}
+-- one that is never true
+pub use Rattle.std.proofs.Math.Bool.{or-false, and-false}
 
 -- of the two, one is true
 pub or_left : (a b : Bool) → a ≡ true → (a || b) ≡ true
@@ -30,12 +32,3 @@ and_right false b h = cc
 pub not_true : (b : Bool) → not b ≡ true → b ≡ false
 not_true true h = cc
 not_true false h = refl
-
--- one that is never true
-pub or-false : (b : Bool) → (b || false) ≡ b
-or-false true = refl
-or-false false = refl
-
-pub and-false : (b : Bool) → (b && false) ≡ false
-and-false true = refl
-and-false false = refl
