@@ -1,6 +1,5 @@
 pub mod OrderLemmas
 pub mod RowsLemmas
-pub mod SetLemmas
 pub mod DeltaLemmas
 pub mod WrittenLemmas
 pub mod FurtherLemmas

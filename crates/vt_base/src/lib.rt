@@ -1,7 +1,8 @@
 //! The words that every other crate speaks: texts, lists, values, rows, and how a value is printed.
 //!
-//! It stands on `vt_shared` and `vt_facts`, keeps short tuples by `smallvec`, and prints by
-//! `serde_json` and `itoa`. Read `vt_facts/specs/Room.antt`, `specs/Order.antt`, `specs/Rows.antt`,
+//! It stands on `vt_shared`, `vt_facts` and `vt_sorted`, keeps short tuples by `smallvec`, and prints by
+//! `serde_json` and `itoa`. Read `vt_facts/specs/Room.antt`,
+//! `vt_sorted/specs/Ascending.antt`, `specs/Order.antt`, `specs/Rows.antt`,
 //! `specs/Aggregate.antt`, `specs/Base.antt`, `specs/Deltas.antt`, `specs/Names.antt`, then
 //! `specs/Written.antt`: these are trusted.
 #![tactic(auto)]
@@ -48,6 +49,7 @@ pub use laws::{
 };
 pub use rows::Rows;
 pub use tuple::Tuple;
+pub use vt_sorted::Walk;
 // What queries ask a model for, and how it changed.
 pub use base::Base;
 pub use delta::{BaseDelta, Delta};

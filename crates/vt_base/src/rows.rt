@@ -1,32 +1,31 @@
 // Rows: a set of tuples in ascending order.
-ghost use Rattle.std.specs.Prelude.{◌≡◌, ◌↔◌, [], IfOk, OnOk, IsTrue, length, slice_get};
+ghost use Rattle.std.specs.Prelude.{◌≡◌, ◌↔◌, ◌≤◌, ◌+◌, [], IfOk, IfErr, OnOk, OnErr, IsOk, IsTrue, length, not, slice_get};
 ghost use Rattle.std.specs.Option.{option_copied};
-ghost use Rattle.std.specs.Result.{is_ok};
+ghost use Rattle.vt_sorted.specs.Ascending.{items_from, with_item, without_item};
+ghost use Rattle.vt_base.specs.Order.{tuple_cmp};
 ghost use Rattle.vt_base.specs.Rows.{Ascends, has_row, IsSetOf};
 
-use crate::plain::copy_all;
 use crate::{NoMemory, Tuple};
 use std::alloc::Global;
 use std::marker::Model;
+use vt_sorted::{Sorted, Walk};
 
 /// A set of tuples. Contracts see its `items` in ascending order, and as `spare` how many more
-/// tuples it takes with no memory.
+/// tuples it takes with no memory. It is the ordered set of `vt_sorted`: a vector while it is
+/// small, chunks when it is large.
 #[derive(Debug, Drop)]
 pub struct Rows {
-    rows: Vec<Tuple>,
+    set: Sorted<Tuple>,
 }
 
 impl Model for Rows {
-    ghost use Rattle.std.specs.Prelude.{◌-◌, List, vec_len, vec_capacity};
+    ghost use Rattle.std.specs.Prelude.{List};
     ghost use Rattle.vt_facts.specs.Room.{Room};
-    ghost use Rattle.vt_base.specs.Rows.{Ascends};
     ghost use Rattle.vt_base.specs.declared.value.Value.{Value as Item};
 
     ghost Value = { Room (List Item) };
 
-    ghost view = { λ r. record { items = r.rows.items; spare = vec_capacity r.rows - vec_len r.rows } };
-
-    ghost invariant = { λ r. Ascends r.rows.items };
+    ghost view = { λ r. r.set };
 }
 
 impl Rows {
@@ -35,84 +34,104 @@ impl Rows {
         ensures { result.items ≡ [] }
     {
         Rows {
-            rows: Vec::new(alloc),
+            set: Sorted::new(alloc),
         }
     }
 
     /// The set of these tuples. It needs memory to sort them.
-    pub fn from_vec(rows: Vec<Tuple>) -> Result<Rows, NoMemory>
+    pub fn from_vec(alloc: Global, rows: Vec<Tuple>) -> Result<Rows, NoMemory>
         ensures { IfOk result (λ set. IsSetOf rows.items set.items) }
     {
-        let mut rows = rows;
-        arrange(&mut rows)?;
-        Ok(Rows { rows })
+        let set = Sorted::from_vec(alloc, rows)?;
+        Ok(Rows { set })
     }
 
-    /// The set of tuples that ascend already. It takes no memory.
-    pub fn from_ascending(rows: Vec<Tuple>) -> Rows
+    /// The set of tuples that ascend already. More than a few need memory.
+    pub fn from_ascending(alloc: Global, rows: Vec<Tuple>) -> Result<Rows, NoMemory>
         requires ascends { Ascends rows.items }
-        ensures { result.items ≡ rows.items }
+        ensures { IfOk result (λ set. set.items ≡ rows.items) }
     {
-        Rows { rows }
+        let set = Sorted::from_ascending(alloc, rows)?;
+        Ok(Rows { set })
     }
 
     /// The same rows again. The texts in them are shared with the copy.
     pub fn copy(&self, alloc: Global) -> Result<Rows, NoMemory>
         ensures { IfOk result (λ copy. copy.items ≡ self.now.items) }
     {
-        let rows = copy_all(alloc, self.as_slice())?.into_vec();
-        Ok(Rows::from_ascending(rows))
+        let set = self.set.copy(alloc)?;
+        Ok(Rows { set })
     }
 
     /// Whether the tuple is one of the rows.
     pub fn contains(&self, row: &Tuple) -> bool
         ensures { result ≡ has_row self.now.items row.now }
     {
-        place(&self.rows, row).is_ok()
+        self.set.contains(row)
     }
 
     /// The row at a place in ascending order, counted from 0. `None` is of a place past the end
-    /// alone.
+    /// alone. It steps over chunks: to read all rows, walk.
     pub fn get(&self, i: usize) -> Option<&Tuple>
         ensures { option_copied result ≡ slice_get self.now.items i }
     {
-        self.rows.get(i)
+        self.set.get(i)
     }
 
     pub fn len(&self) -> usize
         ensures { result ≡ length self.now.items }
     {
-        self.rows.len()
+        self.set.len()
     }
 
     pub fn is_empty(&self) -> bool
         ensures { IsTrue result ↔ (self.now.items ≡ []) }
     {
-        self.rows.is_empty()
+        self.set.is_empty()
     }
 
-    pub fn as_slice(&self) -> &[Tuple]
-        ensures items { result.now ≡ self.now.items }
-        ensures ascends { Ascends result.now }
+    /// The rows in order.
+    pub fn walk(&self) -> Walk<'_, Tuple>
+        ensures items { result ≡ self.now.items }
+        ensures ascends { Ascends self.now.items }
     {
-        self.rows.as_slice()
+        self.set.walk()
     }
-}
 
-// Puts tuples in order and leaves out repeats.
-fn arrange(rows: &mut Vec<Tuple>) -> Result<(), NoMemory>
-    ensures { OnOk result (IsSetOf rows.old.items rows.new.items) }
-{
-    rows.sort()?;
-    rows.dedup();
-    Ok(())
-}
+    /// The rows from a given tuple on, in order.
+    pub fn walk_from(&self, row: &Tuple) -> Walk<'_, Tuple>
+        ensures { result ≡ items_from tuple_cmp self.now.items row.now }
+    {
+        self.set.walk_from(row)
+    }
 
-// Where a tuple stands among rows, or else where it would.
-#[tactic(auto, using(crate::proofs::SetLemmas::has_row_searched))]
-fn place(rows: &[Tuple], row: &Tuple) -> Result<usize, usize>
-    requires { Ascends rows.now }
-    ensures { is_ok result ≡ has_row rows.now row.now }
-{
-    rows.binary_search(row)
+    /// Makes room for so many more rows.
+    pub fn reserve(&mut self, more: usize) -> Result<(), NoMemory>
+        ensures items { self.new.items ≡ self.old.items }
+        ensures room { OnOk result (more ≤ self.new.spare) }
+        ensures grows { self.old.spare ≤ self.new.spare }
+    {
+        self.set.reserve(more)
+    }
+
+    /// Adds the row. It answers false where it stood, and hands it back for want of memory.
+    pub fn insert(&mut self, row: Tuple) -> Result<bool, Tuple>
+        ensures items { OnOk result (self.new.items ≡ with_item tuple_cmp self.old.items row) }
+        ensures added { IfOk result (λ added. added ≡ not (has_row self.old.items row)) }
+        ensures unchanged { OnErr result (self.new.items ≡ self.old.items) }
+        ensures comes_back { IfErr result (λ back. back ≡ row) }
+        ensures succeeds { 1 ≤ self.old.spare → IsOk result }
+        ensures room { self.old.spare ≤ self.new.spare + 1 }
+    {
+        self.set.insert(row)
+    }
+
+    /// Takes the row out, and answers whether it stood.
+    pub fn remove(&mut self, row: &Tuple) -> bool
+        ensures items { self.new.items ≡ without_item tuple_cmp self.old.items row.now }
+        ensures stood { result ≡ has_row self.old.items row.now }
+        ensures room { self.old.spare ≤ self.new.spare }
+    {
+        self.set.remove(row)
+    }
 }

@@ -165,14 +165,17 @@ fn rows_of(alloc: Global, tuples: &[Tuple]) -> Result<Rows, NoMemory> {
             given.push(t.copy(alloc)?)?;
         }
     }
-    Rows::from_vec(given)
+    Rows::from_vec(alloc, given)
 }
 
 #[test]
 fn rows_ascend_and_none_comes_twice(rt: HostRuntime) -> Result<(), Fail> {
     let tuples = ascending_tuples(rt.alloc())?;
     let rows = rows_of(rt.alloc(), tuples.as_slice())?.copy(rt.alloc())?;
-    assert_eq!(rt; rows.as_slice(), tuples.as_slice());
+    assert_eq!(rt; rows.len(), tuples.len());
+    for (i, tuple) in tuples.as_slice().iter().enumerate() {
+        assert_eq!(rt; rows.get(i), Some(tuple));
+    }
     assert_eq!(rt; rows.get(6), tuples.get(6));
     assert_eq!(rt; rows.get(7), None);
     assert_eq!(rt; rows.len(), 7);
@@ -192,6 +195,24 @@ fn rows_ascend_and_none_comes_twice(rt: HostRuntime) -> Result<(), Fail> {
     assert_eq!(rt; long.get(5), None);
     assert_eq!(rt; long.len(), 5);
     assert!(rt; !long.is_empty());
+    Ok(())
+}
+
+// What a set of rows answers when a row comes, comes again and goes.
+fn answers(alloc: Global, row: &Tuple) -> Result<[bool; 4], NoMemory> {
+    let mut rows = Rows::new(alloc);
+    rows.reserve(1)?;
+    let came = matches!(rows.insert(row.copy(alloc)?), Ok(true));
+    let again = matches!(rows.insert(row.copy(alloc)?), Ok(true));
+    let met = rows.walk_from(row).next() == Some(row) && rows.walk().next() == Some(row);
+    let gone = rows.remove(row) && rows.is_empty();
+    Ok([came, again, met, gone])
+}
+
+#[test]
+fn a_row_comes_and_goes(rt: HostRuntime) -> Result<(), Fail> {
+    let row = numbers(rt.alloc(), &[10, 2])?;
+    assert_eq!(rt; answers(rt.alloc(), &row)?, [true, false, true, true]);
     Ok(())
 }
 
