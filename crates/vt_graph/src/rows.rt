@@ -208,7 +208,7 @@ impl Graph {
         match listing_of(self.listings.as_slice(), c) {
             Some(listing) => {
                 let rows = live_rows(alloc, &self.slots, listing, steps)?;
-                Ok(Rows::from_ascending(rows))
+                Rows::from_ascending(alloc, rows)
             }
             None => Ok(Rows::new(alloc)),
         }
@@ -236,7 +236,7 @@ impl Graph {
                     a,
                     steps,
                 )?;
-                Ok(Rows::from_ascending(rows))
+                Rows::from_ascending(alloc, rows)
             }
             None => Ok(Rows::new(alloc)),
         }
@@ -266,7 +266,7 @@ impl Graph {
                     r,
                     steps,
                 )?;
-                Ok(Rows::from_ascending(rows))
+                Rows::from_ascending(alloc, rows)
             }
             None => Ok(Rows::new(alloc)),
         }
