@@ -17,10 +17,9 @@ Rose before now = raised before ≤ now
 -- the count of faults and the name of the last failed fetch, each before and after, account for
 -- the answer of a fetch that asked for a name
 pub record CountsFetch (before now : ℕ) (last next : Option (List ℕ)) (name : List ℕ) (answer : Result Fetched FetchFail) : Type 0 where
-  -- the count never falls
   pub never_falls : before ≤ now
-  -- a failed fetch was counted, and its name is kept
-  pub rose : IsErrOf answer Fetch.Failed → Rose before now
+  -- a failed fetch counts one, and its name is kept
+  pub one : IsErrOf answer Fetch.Failed → now ≡ raised before
   pub named : IsErrOf answer Fetch.Failed → next ≡ Some name
   -- any other answer leaves both
   pub same_count : (answer ≢ Err Fetch.Failed) → now ≡ before
@@ -28,8 +27,7 @@ pub record CountsFetch (before now : ℕ) (last next : Option (List ℕ)) (name 
 
 -- the count of faults, before and after, accounts for the answer of a put
 pub record CountsPut {T : Type 0} (before now : ℕ) (answer : Result T PutFail) : Type 0 where
-  -- the count never falls
   pub never_falls : before ≤ now
-  -- a failed put was counted, and any other answer leaves the count
-  pub rose : IsErrOf answer Put.Failed → Rose before now
+  -- a failed put counts one, and any other answer leaves the count
+  pub one : IsErrOf answer Put.Failed → now ≡ raised before
   pub same_count : (answer ≢ Err Put.Failed) → now ≡ before

@@ -1,2 +1,2 @@
--- No public clause cites a module below.
+-- Words of private contracts alone.
 pub mod Reading

@@ -66,7 +66,6 @@ impl Shelf for MemShelf {
         ensures calls { self.new.calls ≡ raised self.old.calls }
         ensures failing { self.new.failing ≡ self.old.failing }
         ensures due { IsErrOf result FetchFail.Failed ↔ Contains self.old.failing self.new.calls }
-        ensures faults { IsErrOf result FetchFail.Failed → self.new.faults ≡ raised self.old.faults }
     {
         self.calls = self.calls.saturating_add(1);
         if self.failing.as_slice().contains(&self.calls) {
@@ -132,7 +131,6 @@ impl Sink for MemSink {
         ensures calls { self.new.calls ≡ raised self.old.calls }
         ensures failing { self.new.failing ≡ self.old.failing }
         ensures due { IsErrOf result PutFail.Failed ↔ Contains self.old.failing self.new.calls }
-        ensures faults { IsErrOf result PutFail.Failed → self.new.faults ≡ raised self.old.faults }
     {
         self.calls = self.calls.saturating_add(1);
         if self.failing.as_slice().contains(&self.calls) {

@@ -4,7 +4,8 @@ ghost use Rattle.vt_outside.specs.Faults.{CountsFetch};
 ghost use Rattle.vt_outside.specs.Shelf.{NamedFiles, file_at, fetched_of, IsWithin};
 ghost use Rattle.vt_outside.specs.declared.shelf.FetchFail.TheVariants.{NoMemory as NoRoom};
 
-use std::alloc::Global;
+use std::alloc::{AllocError, Global};
+use thiserror::Error;
 use vt_base::{List, NoMemory, Text};
 
 /// What a shelf has under a name, up to a limit.
@@ -19,12 +20,23 @@ pub enum Fetched {
 }
 
 /// Why a fetch has no answer.
-#[derive(Clone, Copy, Debug, PartialEq, Eq)]
+#[derive(Clone, Copy, Debug, PartialEq, Eq, Error)]
 pub enum FetchFail {
-    /// The device failed. The shelf counted it, and knows the name that was asked for.
+    /// The device failed, as at a folder in place of a file. The shelf counted it, and knows the name
+    /// that was asked for.
+    #[error("the file can't be read, as where its path leads to a folder")]
     Failed,
     /// Memory ran out.
+    #[error("there is no memory for the bytes of the file")]
     NoMemory,
+}
+
+impl From<AllocError> for FetchFail {
+    ghost from_gives = { λ _ e. e ≡ NoRoom };
+
+    fn from(_: AllocError) -> FetchFail {
+        FetchFail::NoMemory
+    }
 }
 
 impl From<NoMemory> for FetchFail {

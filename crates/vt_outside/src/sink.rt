@@ -5,15 +5,28 @@ ghost use Rattle.vt_outside.specs.Faults.{CountsPut};
 ghost use Rattle.vt_outside.specs.Sink.{AppendsPrefix};
 ghost use Rattle.vt_outside.specs.declared.sink.PutFail.TheVariants.{NoMemory as NoRoom};
 
+use std::alloc::AllocError;
+use thiserror::Error;
 use vt_base::NoMemory;
 
 /// Why a piece was not written whole.
-#[derive(Clone, Copy, Debug, PartialEq, Eq)]
+#[derive(Clone, Copy, Debug, PartialEq, Eq, Error)]
 pub enum PutFail {
-    /// The device failed, or took nothing of a piece that wasn't empty. The sink counted it.
+    /// The device failed, or took nothing of a piece that wasn't empty, as a full disk does. The sink
+    /// counted it.
+    #[error("the output takes no more, as a disk that is full")]
     Failed,
     /// Memory ran out.
+    #[error("there is no memory for what is to be written")]
     NoMemory,
+}
+
+impl From<AllocError> for PutFail {
+    ghost from_gives = { λ _ e. e ≡ NoRoom };
+
+    fn from(_: AllocError) -> PutFail {
+        PutFail::NoMemory
+    }
 }
 
 impl From<NoMemory> for PutFail {
