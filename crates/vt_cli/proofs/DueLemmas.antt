@@ -2,7 +2,7 @@
 use Rattle.std.proofs.Common.{ℕ, ◌≡◌, ◌≢◌, ◌⊎◌, List, Option, Some, None, Result, Ok, Err, sym, ◌∙◌, ap, subst, inl, inr}
 use Rattle.vt_base.specs.Base.{Counts}
 use Rattle.vt_base.specs.declared.value.Value.{Value}
-use Rattle.vt_outside.specs.Shelf.{NamedFiles, file_at}
+use Rattle.vt_outside.specs.Shelf.{NamedFiles}
 use Rattle.vt_model.specs.Base.{counts_of}
 use Rattle.vt_model.specs.Metamodel.{Metamodel, enum_names}
 use Rattle.vt_model.specs.Model.{Model}
@@ -14,11 +14,13 @@ use Rattle.vt_query.specs.declared.program.Program.{Program}
 use Rattle.vt_vql.specs.Queries.{Accepts, IsFaultOf}
 use Rattle.vt_vql.specs.declared.fault.QueryFault.{QueryFault}
 use Rattle.vt_vql.specs.declared.fault.QueryFault.TheVariants.{NoMemory}
-use Rattle.vt_cli.specs.Command.{Command, show, matches, command_of}
+use Rattle.vt_cli.specs.Command.{Command, command_of}
 use Rattle.vt_cli.specs.Lists.{match_lists}
 use Rattle.vt_cli.specs.Refusals.{refused_queries}
-use Rattle.vt_cli.specs.Result.{bytes_of, documents_of, loaded_from, shown, done, IsListed, IsMatched, IsRefused, IsDueTo, IsDueToCommand, IsDue, Loaded}
-use Rattle.vt_cli.specs.declared.fetching.Documents.{Documents}
+use Rattle.vt_cli.specs.Result.{texts_of, text_of, loaded_from, shown, done, IsListed, IsMatched, IsRefused, IsDueTo, IsDueToModel, IsDueToTexts, IsDueToCommand, IsDue, Loaded}
+use Rattle.vt_cli.specs.declared.command.Task.{Task}
+use Rattle.vt_cli.specs.declared.command.Task.TheVariants.{Show, Matches}
+use Rattle.vt_cli.specs.declared.ending.Role.{Role}
 use Rattle.vt_cli.specs.declared.ending.Role.TheVariants as role
 use Rattle.vt_cli.specs.declared.ending.Outcome.{Outcome}
 
@@ -92,20 +94,16 @@ module _ (below : Below) (l : Loaded) (bytes : List ℕ) where
 one_shown : (l : Loaded) → IsAtMostOne (λ o. o ≡ shown l)
 one_shown l outcome other e f = e ∙ sym f
 
-one_due_to_command : Below → (command : Option Command) (files : NamedFiles) → IsAtMostOne (IsDueToCommand command files)
-one_due_to_command below None files outcome other e f = e ∙ sym f
-one_due_to_command below (Some (show metamodel model)) files outcome other e f =
-    one_due (documents_of files metamodel model) (λ documents o. IsDueTo (loaded_from documents) (λ l p. p ≡ shown l) o)
-    (λ documents. one_due (loaded_from documents) (λ l p. p ≡ shown l) one_shown)
-    outcome other e f
-one_due_to_command below (Some (matches metamodel model queries)) files outcome other e f =
-    let rest : Documents → List ℕ → Outcome → Type 0 = λ documents bytes p. IsDueTo (loaded_from documents) (λ l q. IsMatched l bytes q ⊎ IsRefused l bytes q) p in
-    let query_file = bytes_of role.Queries (file_at files queries) in
-    one_due (documents_of files metamodel model) (λ documents o. IsDueTo query_file (rest documents) o)
-    (λ documents. one_due query_file (rest documents)
-    (λ bytes. one_due (loaded_from documents) (λ l q. IsMatched l bytes q ⊎ IsRefused l bytes q) (λ l. one_answer below l bytes)))
-    outcome other e f
+one_due_to_texts : Below → (task : Task) (texts : List (Role × List ℕ)) → IsAtMostOne (IsDueToTexts task texts)
+one_due_to_texts below Show texts = one_due (loaded_from texts) (λ l o. IsDueToModel Show l texts o) one_shown
+one_due_to_texts below Matches texts =
+    one_due (loaded_from texts) (λ l o. IsDueToModel Matches l texts o) (λ l. one_answer below l (text_of role.Queries texts))
 
-pub one_outcome : Below → (words : List (List ℕ)) (files : NamedFiles) (outcome other : Outcome)
-    → IsDue words files outcome → IsDue words files other → outcome ≡ other
-one_outcome below words files outcome other e f = one_due_to_command below (command_of words) files outcome other e f
+one_due_to_command : Below → (command : Option Command) (known : NamedFiles) → IsAtMostOne (IsDueToCommand command known)
+one_due_to_command below None known outcome other e f = e ∙ sym f
+one_due_to_command below (Some command) known outcome other e f =
+    one_due (texts_of known command.files) (λ texts o. IsDueToTexts command.task texts o) (one_due_to_texts below command.task) outcome other e f
+
+pub one_outcome : Below → (words : List (List ℕ)) (known : NamedFiles) (outcome other : Outcome)
+    → IsDue words known outcome → IsDue words known other → outcome ≡ other
+one_outcome below words known outcome other e f = one_due_to_command below (command_of words) known outcome other e f

@@ -1,3 +1,4 @@
 pub mod AnswerLemmas
 mod DueLemmas
+pub mod FetchLemmas
 pub mod NamedLemmas

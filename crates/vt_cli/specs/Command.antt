@@ -1,45 +1,61 @@
 -- What the words ask for, and how a run ends.
-use Rattle.std.specs.Prelude.{ℕ, List, [], ◌∷◌, codes, nat_eq, if◌then◌else◌, Option, Some, None}
+use Rattle.std.specs.Prelude.{ℕ, List, [], ◌∷◌, length, zip, codes, nat_eq, if◌then◌else◌, Option, Some, None, option_and_then}
 use Rattle.std.specs.Cmp.Lexicographic.{pointwise}
+use Rattle.vt_cli.specs.declared.command.Task.{Task}
+use Rattle.vt_cli.specs.declared.command.Task.TheVariants.{Show, Matches}
 use Rattle.vt_cli.specs.declared.ending.Role.{Role}
 use Rattle.vt_cli.specs.declared.ending.Role.TheVariants.{Metamodel, Model, Queries}
 use Rattle.vt_cli.specs.declared.ending.Ending.{Ending}
 use Rattle.vt_cli.specs.declared.ending.Ending.TheVariants.{Done, Usage, BadInput, Missing, ReadFault, NoMemory, WriteFault, TooLarge}
 
--- a command, with the names of its files
-pub data Command : Type 0 where
-  show : List ℕ → List ℕ → Command
-  matches : List ℕ → List ℕ → List ℕ → Command
+-- ---- commands: each has a line in these three
+
+-- what the first word asks for
+abbrev pub task_of : List ℕ → Option Task
+task_of word =
+    if pointwise nat_eq word (codes "show") then Some Show
+    else if pointwise nat_eq word (codes "matches") then Some Matches
+    else None
+
+-- what the other words name: the files, in their order; no two are the same to a command
+abbrev pub roles_of : Task → List Role
+roles_of Show = Metamodel ∷ Model ∷ []
+roles_of Matches = Metamodel ∷ Model ∷ Queries ∷ []
+
+-- whether the model is asked for no rows
+abbrev pub IsWithoutRows : Task → Type 0
+IsWithoutRows Show = Unit {0}
+IsWithoutRows Matches = ⊥
+
+-- ---- words
+
+-- a command: what it does, and its files, each as what it is and under its name
+pub record Command : Type 0 where
+  pub task : Task
+  pub files : List (Role × List ℕ)
+
+-- there are as many names as files
+abbrev pub with_names : List (List ℕ) → Task → Option Command
+with_names names task = if nat_eq (length names) (length (roles_of task))
+    then Some (record { task = task; files = zip (roles_of task) names })
+    else None
 
 -- words that are no command are none
 abbrev pub command_of : List (List ℕ) → Option Command
-command_of (word ∷ metamodel ∷ model ∷ []) = if pointwise nat_eq word (codes "show") then Some (show metamodel model) else None
-command_of (word ∷ metamodel ∷ model ∷ queries ∷ []) = if pointwise nat_eq word (codes "matches") then Some (matches metamodel model queries) else None
-command_of words = None
+command_of [] = None
+command_of (word ∷ names) = option_and_then (with_names names) (task_of word)
 
--- the name of a command's file
-abbrev pub name_of : Role → Option Command → Option (List ℕ)
-name_of role None = None
-name_of Metamodel (Some (show metamodel model)) = Some metamodel
-name_of Model (Some (show metamodel model)) = Some model
-name_of Queries (Some (show metamodel model)) = None
-name_of Metamodel (Some (matches metamodel model queries)) = Some metamodel
-name_of Model (Some (matches metamodel model queries)) = Some model
-name_of Queries (Some (matches metamodel model queries)) = Some queries
+-- the files of a command; no command has any
+abbrev pub files_of : Option Command → List (Role × List ℕ)
+files_of None = []
+files_of (Some command) = command.files
 
--- the names of the files that are fetched before a command's file
-abbrev pub names_before : Role → Option Command → List (List ℕ)
-names_before role None = []
-names_before Metamodel (Some command) = []
-names_before Model (Some (show metamodel model)) = metamodel ∷ []
-names_before Model (Some (matches metamodel model queries)) = metamodel ∷ []
-names_before Queries (Some (show metamodel model)) = []
-names_before Queries (Some (matches metamodel model queries)) = metamodel ∷ model ∷ []
-
--- a command that asks the model for no rows
+-- the words ask the model for no rows
 abbrev pub AsksNothing : Option Command → Type 0
-AsksNothing (Some (matches metamodel model queries)) = ⊥
-AsksNothing command = Unit {0}
+AsksNothing None = Unit {0}
+AsksNothing (Some command) = IsWithoutRows command.task
+
+-- ---- endings
 
 -- the exit status of an ending
 abbrev pub status_of : Ending → ℕ

@@ -1,4 +1,4 @@
--- No public clause cites a module below.
+-- Words of private contracts alone.
 pub mod Seen
 pub mod Prepared
 pub mod Printable

@@ -1,5 +1,5 @@
 -- What is due to a list of words over told files: an ending and a text.
-use Rattle.std.specs.Prelude.{◌≡◌, ◌⊎◌, ℕ, ◌+◌, List, ◌++◌, length, codes, nat_lt, if◌then◌else◌, Option, Some, None, Result, Ok, Err}
+use Rattle.std.specs.Prelude.{◌≡◌, ◌⊎◌, ℕ, ◌+◌, Bool, true, false, List, [], ◌∷◌, ◌++◌, length, codes, nat_lt, if◌then◌else◌, Option, Some, None, Result, Ok, Err}
 use Rattle.vt_base.specs.declared.value.Value.{Value}
 use Rattle.vt_outside.specs.Shelf.{NamedFiles, file_at}
 use Rattle.vt_model.specs.Metamodel.{Metamodel, enum_names}
@@ -12,11 +12,12 @@ use Rattle.vt_vql.specs.Queries.{Accepts, IsFaultOf}
 use Rattle.vt_vql.specs.declared.fault.QueryFault.{QueryFault}
 use Rattle.vt_model_json.specs.Loading.{loaded}
 use Rattle.vt_model_json.specs.Dump.{dump}
-use Rattle.vt_cli.specs.Command.{Command, show, matches, command_of}
+use Rattle.vt_cli.specs.Command.{Command, command_of}
 use Rattle.vt_cli.specs.Lines.{usage_line, missing_line, too_large_line}
 use Rattle.vt_cli.specs.Refusals.{refused_meta, refused_model, refused_queries}
 use Rattle.vt_cli.specs.Lists.{match_lists}
-use Rattle.vt_cli.specs.declared.fetching.Documents.{Documents}
+use Rattle.vt_cli.specs.declared.command.Task.{Task}
+use Rattle.vt_cli.specs.declared.command.Task.TheVariants.{Show, Matches}
 use Rattle.vt_cli.specs.declared.ending.Role.{Role}
 use Rattle.vt_cli.specs.declared.ending.Role.TheVariants as role
 use Rattle.vt_cli.specs.declared.ending.Ending.TheVariants.{Done, Usage, Missing, TooLarge}
@@ -41,12 +42,24 @@ abbrev pub ◌>>=◌ : {A B : Type 0} → Result A Outcome → (A → Result B O
 (Err outcome) >>= rest = Err outcome
 (Ok x) >>= rest = rest x
 
--- the bytes of a metamodel and of a model
-abbrev pub documents_of : NamedFiles → List ℕ → List ℕ → Result Documents Outcome
-documents_of files metamodel model = do
-  first ← bytes_of role.Metamodel (file_at files metamodel)
-  second ← bytes_of role.Model (file_at files model)
-  Ok (record { metamodel = first; model = second })
+-- the bytes of a command's files: the first that isn't there, or is too large, decides
+abbrev pub texts_of : NamedFiles → List (Role × List ℕ) → Result (List (Role × List ℕ)) Outcome
+texts_of known [] = Ok []
+texts_of known (file ∷ rest) = do
+  bytes ← bytes_of file.0 (file_at known file.1)
+  texts ← texts_of known rest
+  Ok ((file.0, bytes) ∷ texts)
+
+abbrev pub is_same : Role → Role → Bool
+is_same role.Metamodel role.Metamodel = true
+is_same role.Model role.Model = true
+is_same role.Queries role.Queries = true
+is_same role other = false
+
+-- the bytes of the file that is this to its command
+abbrev pub text_of : Role → List (Role × List ℕ) → List ℕ
+text_of role [] = []
+text_of role (text ∷ rest) = if is_same role text.0 then text.1 else text_of role rest
 
 -- ---- documents
 
@@ -62,10 +75,10 @@ abbrev pub model_of : Metamodel → List ℕ → Result Model Outcome
 model_of meta bytes = refused_model (loaded meta bytes)
 
 -- the metamodel is judged before the model
-abbrev pub loaded_from : Documents → Result Loaded Outcome
-loaded_from documents = do
-  meta ← metamodel_of documents.metamodel
-  g ← model_of meta documents.model
+abbrev pub loaded_from : List (Role × List ℕ) → Result Loaded Outcome
+loaded_from texts = do
+  meta ← metamodel_of (text_of role.Metamodel texts)
+  g ← model_of meta (text_of role.Model texts)
   Ok (record { meta = meta; model = g })
 
 -- ---- what is due
@@ -105,17 +118,21 @@ abbrev pub IsDueTo : {A : Type 0} → Result A Outcome → (A → Outcome → Ty
 IsDueTo (Err first) rest outcome = outcome ≡ first
 IsDueTo (Ok x) rest outcome = rest x outcome
 
+-- what a command makes of a model and its other texts: each command has a line
+abbrev pub IsDueToModel : Task → Loaded → List (Role × List ℕ) → Outcome → Type 0
+IsDueToModel Show l texts outcome = outcome ≡ shown l
+IsDueToModel Matches l texts outcome = IsMatched l (text_of role.Queries texts) outcome ⊎ IsRefused l (text_of role.Queries texts) outcome
+
+-- the model is judged before the texts that are about it
+abbrev pub IsDueToTexts : Task → List (Role × List ℕ) → Outcome → Type 0
+IsDueToTexts task texts outcome = IsDueTo (loaded_from texts) (λ l o. IsDueToModel task l texts o) outcome
+
 -- all files are there before any is judged
 abbrev pub IsDueToCommand : Option Command → NamedFiles → Outcome → Type 0
-IsDueToCommand None files outcome = outcome ≡ usage
-IsDueToCommand (Some (show metamodel model)) files outcome =
-    IsDueTo (documents_of files metamodel model) (λ documents o.
-    IsDueTo (loaded_from documents) (λ l p. p ≡ shown l) o) outcome
-IsDueToCommand (Some (matches metamodel model queries)) files outcome =
-    IsDueTo (documents_of files metamodel model) (λ documents o.
-    IsDueTo (bytes_of role.Queries (file_at files queries)) (λ bytes p.
-    IsDueTo (loaded_from documents) (λ l q. IsMatched l bytes q ⊎ IsRefused l bytes q) p) o) outcome
+IsDueToCommand None known outcome = outcome ≡ usage
+IsDueToCommand (Some command) known outcome =
+    IsDueTo (texts_of known command.files) (λ texts o. IsDueToTexts command.task texts o) outcome
 
 -- the outcome is due to the words over these files
 abbrev pub IsDue : List (List ℕ) → NamedFiles → Outcome → Type 0
-IsDue words files outcome = IsDueToCommand (command_of words) files outcome
+IsDue words known outcome = IsDueToCommand (command_of words) known outcome

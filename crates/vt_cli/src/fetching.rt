@@ -1,12 +1,7 @@
 // Fetching the files of a command. All are fetched before any is judged.
-ghost use Rattle.std.specs.Prelude.{◌≡◌, ◌≤◌, ℕ, Some, IfOk, IfErr, IfSome, List, length, [], ◌∷◌};
-ghost use Rattle.vt_outside.specs.Faults.{Rose};
-ghost use Rattle.vt_outside.specs.Shelf.{file_at};
-ghost use Rattle.vt_cli.specs.Command.{show, matches, name_of, names_before};
-ghost use Rattle.vt_cli.specs.Lines.{unreadable_line};
-ghost use Rattle.vt_cli.specs.Result.{file_limit, bytes_of, documents_of};
-ghost use Rattle.vt_cli.specs.Answer.{AreThere, IsDecided};
-ghost use Rattle.vt_cli.specs.Inside.Prepared.{EndsFetch, Got};
+ghost use Rattle.std.specs.Prelude.{◌≡◌, ◌⊎◌, ◌≤◌, IfOk, IfErr, length, zip, [], ◌∷◌};
+ghost use Rattle.vt_cli.specs.Result.{file_limit, is_same, text_of};
+ghost use Rattle.vt_cli.specs.Inside.Prepared.{AreFetched, AreStopped, AreUnread, AreSmall, FailsFile};
 
 use crate::ending::{Ending, Outcome, Role};
 use crate::lines;
@@ -17,40 +12,21 @@ use vt_outside::{FetchFail, Fetched, Shelf};
 /// The most bytes of a file.
 const FILE_LIMIT: u64 = 16_777_216;
 
-/// The bytes of a metamodel and of a model.
-#[derive(Debug, Drop)]
-pub struct Documents {
-    pub metamodel: List<u8>,
-    pub model: List<u8>,
-}
-
-/// Fetches a file. Where it isn't answered with bytes, the outcome ends the call.
-pub(crate) fn fetch_file<S: Shelf>(
+// Fetches a file. Where it isn't answered with bytes, the outcome ends the command.
+fn fetch_file<S: Shelf>(
     alloc: Global,
     shelf: &mut S,
     role: Role,
     name: &Text,
 ) -> Result<Result<List<u8>, Outcome>, NoMemory>
-    ensures got { IfOk result (λ got. IfSome (S.files shelf.old) (λ files.
-        Got (bytes_of role (file_at files name.now)) (S.faults shelf.old) (S.faults shelf.new) got)) }
-    ensures small { IfOk result (λ got. IfOk got (λ bytes. length bytes ≤ file_limit)) }
-    ensures there { IfOk result (λ got. IfOk got (λ _. IfSome (S.files shelf.old) (λ files.
-        AreThere files (name.now ∷ [])))) }
     ensures files { S.files shelf.new ≡ S.files shelf.old }
-    ensures never_falls { S.faults shelf.old ≤ S.faults shelf.new }
-    ensures quiet { IfOk result (λ got. IfOk got (λ _. S.faults shelf.new ≡ S.faults shelf.old)) }
-    ensures quiet_end { IfOk result (λ got. IfErr got (λ outcome. IsDecided outcome.ending
-        → S.faults shelf.new ≡ S.faults shelf.old)) }
-    ensures ends { IfOk result (λ got. IfErr got (λ outcome. EndsFetch outcome.ending)) }
-    ensures asked { IfOk result (λ got. IfErr got (λ outcome. (asked : Role)
-        → outcome.ending ≡ Ending.ReadFault asked → asked ≡ role)) }
-    ensures rose { IfOk result (λ got. IfErr got (λ outcome. (asked : Role)
-        → outcome.ending ≡ Ending.ReadFault asked
-        → Rose (S.faults shelf.old) (S.faults shelf.new))) }
-    ensures failed { IfOk result (λ got. IfErr got (λ outcome. (asked : Role)
-        → outcome.ending ≡ Ending.ReadFault asked → S.failed shelf.new ≡ Some name.now)) }
-    ensures line { IfOk result (λ got. IfErr got (λ outcome. (asked : Role)
-        → outcome.ending ≡ Ending.ReadFault asked → outcome.text ≡ unreadable_line asked)) }
+    ensures fetched { IfOk result (λ got. IfOk got (λ bytes.
+        AreFetched ((role, name.now) ∷ []) (S.files shelf.old)
+        (S.faults shelf.old) (S.faults shelf.new) ((role, bytes) ∷ []))) }
+    ensures ended { IfOk result (λ got. IfErr got (λ outcome.
+        AreStopped ((role, name.now) ∷ []) (S.files shelf.old)
+        (S.faults shelf.old) (S.faults shelf.new) outcome
+        ⊎ FailsFile role name.now (S.faults shelf.old) (S.faults shelf.new) (S.failed shelf.new) outcome)) }
 {
     match shelf.fetch(alloc, name, FILE_LIMIT) {
         Ok(Fetched::Bytes(bytes)) => Ok(Ok(bytes)),
@@ -70,48 +46,61 @@ pub(crate) fn fetch_file<S: Shelf>(
     }
 }
 
-/// Fetches a metamodel and a model, which each command has first.
-pub(crate) fn fetch_documents<S: Shelf>(
+/// Fetches files in their order, each under what it is to the command. The first that isn't answered
+/// with bytes ends the command.
+pub(crate) fn fetch_files<S: Shelf>(
     alloc: Global,
     shelf: &mut S,
-    metamodel: &Text,
-    model: &Text,
-) -> Result<Result<Documents, Outcome>, NoMemory>
-    ensures got { IfOk result (λ got. IfSome (S.files shelf.old) (λ files.
-        Got (documents_of files metamodel.now model.now) (S.faults shelf.old) (S.faults shelf.new) got)) }
-    ensures there { IfOk result (λ got. IfOk got (λ _. IfSome (S.files shelf.old) (λ files.
-        AreThere files (metamodel.now ∷ model.now ∷ [])))) }
-    ensures files { S.files shelf.new ≡ S.files shelf.old }
-    ensures never_falls { S.faults shelf.old ≤ S.faults shelf.new }
-    ensures quiet { IfOk result (λ got. IfOk got (λ _. S.faults shelf.new ≡ S.faults shelf.old)) }
-    ensures quiet_end { IfOk result (λ got. IfErr got (λ outcome. IsDecided outcome.ending
-        → S.faults shelf.new ≡ S.faults shelf.old)) }
-    ensures ends { IfOk result (λ got. IfErr got (λ outcome. EndsFetch outcome.ending)) }
-    ensures rose { IfOk result (λ got. IfErr got (λ outcome. (asked : Role)
-        → outcome.ending ≡ Ending.ReadFault asked
-        → Rose (S.faults shelf.old) (S.faults shelf.new))) }
-    ensures failed_show { IfOk result (λ got. IfErr got (λ outcome. (asked : Role)
-        → outcome.ending ≡ Ending.ReadFault asked
-        → S.failed shelf.new ≡ name_of asked (Some (show metamodel.now model.now)))) }
-    ensures failed_matches { IfOk result (λ got. IfErr got (λ outcome. (asked : Role) (queries : List ℕ)
-        → outcome.ending ≡ Ending.ReadFault asked
-        → S.failed shelf.new ≡ name_of asked (Some (matches metamodel.now model.now queries)))) }
-    ensures before_show { IfOk result (λ got. IfErr got (λ outcome. (asked : Role)
-        → outcome.ending ≡ Ending.ReadFault asked → IfSome (S.files shelf.old) (λ files.
-        AreThere files (names_before asked (Some (show metamodel.now model.now)))))) }
-    ensures before_matches { IfOk result (λ got. IfErr got (λ outcome. (asked : Role) (queries : List ℕ)
-        → outcome.ending ≡ Ending.ReadFault asked → IfSome (S.files shelf.old) (λ files.
-        AreThere files (names_before asked (Some (matches metamodel.now model.now queries)))))) }
-    ensures line { IfOk result (λ got. IfErr got (λ outcome. (asked : Role)
-        → outcome.ending ≡ Ending.ReadFault asked → outcome.text ≡ unreadable_line asked)) }
+    roles: &[Role],
+    names: &[Text],
+) -> Result<Result<List<(Role, List<u8>)>, Outcome>, NoMemory>
+    ensures fetched { IfOk result (λ got. IfOk got (λ texts.
+        AreFetched (zip roles.now names.now) (S.files shelf.old)
+        (S.faults shelf.old) (S.faults shelf.new) texts)) }
+    ensures ended { IfOk result (λ got. IfErr got (λ outcome.
+        AreStopped (zip roles.now names.now) (S.files shelf.old)
+        (S.faults shelf.old) (S.faults shelf.new) outcome
+        ⊎ AreUnread (zip roles.now names.now) (S.files shelf.old)
+        (S.faults shelf.old) (S.faults shelf.new) (S.failed shelf.new) outcome)) }
 {
-    let metamodel = match fetch_file(alloc, shelf, Role::Metamodel, metamodel)? {
-        Ok(bytes) => bytes,
-        Err(outcome) => return Ok(Err(outcome)),
-    };
-    let model = match fetch_file(alloc, shelf, Role::Model, model)? {
-        Ok(bytes) => bytes,
-        Err(outcome) => return Ok(Err(outcome)),
-    };
-    Ok(Ok(Documents { metamodel, model }))
+    let mut texts = List::new(alloc);
+    let mut roles = roles;
+    let mut names = names;
+    'each: while let Some((role, other_roles)) = roles.split_first() {
+        let Some((name, other_names)) = names.split_first() else {
+            return Ok(Ok(texts));
+        };
+        match fetch_file(alloc, shelf, *role, name)? {
+            Ok(bytes) => texts.add((*role, bytes))?,
+            Err(outcome) => return Ok(Err(outcome)),
+        }
+        roles = other_roles;
+        names = other_names;
+    }
+    Ok(Ok(texts))
+}
+
+fn is_same(role: Role, other: Role) -> bool
+    ensures { result ≡ is_same role other }
+{
+    match (role, other) {
+        (Role::Metamodel, Role::Metamodel) => true,
+        (Role::Model, Role::Model) => true,
+        (Role::Queries, Role::Queries) => true,
+        _ => false,
+    }
+}
+
+/// The bytes of the file that is this to the command.
+pub(crate) fn text_of(texts: &[(Role, List<u8>)], role: Role) -> &[u8]
+    requires { AreSmall texts.now }
+    ensures text { result.now ≡ text_of role texts.now }
+    ensures small { length result.now ≤ file_limit }
+{
+    for text in texts {
+        if is_same(role, text.0) {
+            return text.1.as_slice();
+        }
+    }
+    &[]
 }

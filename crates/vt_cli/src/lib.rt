@@ -5,13 +5,11 @@
 //! `viatra`, below.
 #![tactic(auto)]
 
-ghost use Rattle.std.specs.Prelude.{◌≡◌, None, IfSome};
-ghost use Rattle.std.specs.Io.KnownBytes.{Appends};
+ghost use Rattle.std.specs.Prelude.{◌≡◌};
 ghost use Rattle.vt_outside.specs.Faults.{Rose};
-ghost use Rattle.vt_cli.specs.Command.{command_of, name_of, names_before, AsksNothing};
-ghost use Rattle.vt_cli.specs.Lines.{unreadable_line};
+ghost use Rattle.vt_cli.specs.Command.{command_of, AsksNothing};
 ghost use Rattle.vt_cli.specs.declared.ending.Role.{Role};
-ghost use Rattle.vt_cli.specs.Answer.{IsDecided, IsAnswered, IsCutShort, EndsUsage, IsCompleted, WritesFront, AreThere};
+ghost use Rattle.vt_cli.specs.Answer.{IsRefusal, IsAnswered, TellsUsage, IsUnread, IsUnwritten, WritesFront, IsCompleted};
 
 // What the words come to, and how a run ends.
 mod command;
@@ -46,32 +44,33 @@ pub fn viatra<S: Shelf, K: Sink, L: Ledger>(
     out: &mut K,
     steps: &mut Steps<L>,
 ) -> Ending
-    // Where the shelf tells its files, they and the words decide: done, no command, a file
-    // refused, missing or too large, and the whole text that is due was written.
-    ensures decided { IsDecided result → IfSome (S.files shelf.old) (λ files.
-        IsAnswered words.now files result (K.written out.old) (K.written out.new)) }
-    ensures quiet { IsDecided result → S.faults shelf.new ≡ S.faults shelf.old }
+    // Where the shelf tells its files, they and the words decide. No fetch failed, and the whole text
+    // that is due was written.
+    ensures done { result ≡ Ending.Done → IsAnswered words.now (S.files shelf.old)
+        (S.faults shelf.old) (S.faults shelf.new) result (K.written out.old) (K.written out.new) }
+
+    // The same of no command, and of a file that is refused, missing or too large.
+    ensures refused { IsRefusal result → IsAnswered words.now (S.files shelf.old)
+        (S.faults shelf.old) (S.faults shelf.new) result (K.written out.old) (K.written out.new) }
 
     // No command is told as such, told files or not.
-    ensures usage { result ≡ Ending.Usage → command_of words.now ≡ None }
-    ensures no_command { command_of words.now ≡ None → EndsUsage result }
+    ensures usage { TellsUsage words.now result }
 
     // A fetch failed: the shelf counted it and names the file, those before it are there, and the
     // line that tells it was written.
     ensures read_fault { (file : Role) → result ≡ Ending.ReadFault file
-        → Rose (S.faults shelf.old) (S.faults shelf.new) }
-    ensures failed_file { (file : Role) → result ≡ Ending.ReadFault file
-        → S.failed shelf.new ≡ name_of file (command_of words.now) }
-    ensures files_before { (file : Role) → result ≡ Ending.ReadFault file
-        → IfSome (S.files shelf.old) (λ files. AreThere files (names_before file (command_of words.now))) }
-    ensures read_line { (file : Role) → result ≡ Ending.ReadFault file
-        → Appends (K.written out.old) (K.written out.new) (unreadable_line file) }
+        → IsUnread words.now (S.files shelf.old) file (S.faults shelf.old) (S.faults shelf.new)
+        (S.failed shelf.new) (K.written out.old) (K.written out.new) }
 
-    // The writing was cut short: the sink counted a failure, or memory ran out.
-    ensures write_fault { result ≡ Ending.WriteFault → Rose (K.faults out.old) (K.faults out.new) }
-    ensures front { IsCutShort result → IfSome (S.files shelf.old) (λ files.
-        WritesFront words.now files (S.faults shelf.old) (S.faults shelf.new)
-        (K.written out.old) (K.written out.new)) }
+    // The sink counted a failure, and took a prefix of the text.
+    ensures write_fault { result ≡ Ending.WriteFault → IsUnwritten words.now (S.files shelf.old)
+        (S.faults shelf.old) (S.faults shelf.new) (S.failed shelf.new)
+        (K.faults out.old) (K.faults out.new) (K.written out.old) (K.written out.new) }
+
+    // Memory ran out, before the text was written or while it was.
+    ensures no_memory { result ≡ Ending.NoMemory → WritesFront words.now (S.files shelf.old)
+        (S.faults shelf.old) (S.faults shelf.new) (S.failed shelf.new)
+        (K.written out.old) (K.written out.new) }
 
     // Where no device failed, the words and the files decide, unless memory ran out.
     ensures completes { ¬ Rose (S.faults shelf.old) (S.faults shelf.new)

@@ -8,7 +8,7 @@ ghost use Rattle.vt_model.specs.Sound.{IsSound};
 ghost use Rattle.vt_model.specs.Valid.{IsValid};
 ghost use Rattle.vt_query.specs.Narrow.{IsNarrow};
 ghost use Rattle.vt_cli.specs.Result.{file_limit, IsListed, IsMatched, IsRefused};
-ghost use Rattle.vt_cli.specs.Inside.Prepared.{IsJudged};
+ghost use Rattle.vt_cli.specs.Inside.Prepared.{IsOfFiles};
 ghost use Rattle.vt_cli.specs.Inside.Printable.{AllNamed, AllTablesNamed};
 ghost use Rattle.vt_cli.specs.Inside.Seen.{loaded_of};
 
@@ -38,15 +38,16 @@ fn write_match<N: Names>(
 
 fn write_rows<N: Names>(
     alloc: Global,
-    rows: &[Tuple],
+    rows: &Rows,
     names: &N,
     out: &mut List<u8>,
 ) -> Result<(), NoMemory>
-    requires { AllNamed (N.enums names.now) (N.objects names.now) rows.now }
+    requires { AllNamed (N.enums names.now) (N.objects names.now) rows.now.items }
     ensures { OnOk result (out.new ≡ out.old
-        ++ flat_map (match_line (N.enums names.now) (N.objects names.now)) rows.now) }
+        ++ flat_map (match_line (N.enums names.now) (N.objects names.now)) rows.now.items) }
 {
-    for row in rows {
+    let mut walk = rows.walk();
+    while let Some(row) = walk.next() {
         write_match(alloc, row, names, out)?;
     }
     Ok(())
@@ -80,7 +81,7 @@ fn write_list<N: Names>(
 {
     if pattern.shown {
         write_head(alloc, pattern, rows.len(), out)?;
-        write_rows(alloc, rows.as_slice(), names, out)?;
+        write_rows(alloc, rows, names, out)?;
     }
     Ok(())
 }
@@ -135,7 +136,7 @@ fn lists<L: Ledger>(
     requires valid { IsValid store.now.meta store.now.model }
     requires narrow { IsNarrow (counts_of store.now.meta) program.now }
     ensures due { IfOk result (λ outcome. IsListed (loaded_of store.now) program.now outcome) }
-    ensures judged { IfOk result (λ outcome. IsJudged outcome.ending) }
+    ensures suits { IfOk result (λ outcome. IsOfFiles outcome.ending) }
 {
     narrow_rows_are_named();
     let tables = evaluate_directly(alloc, program, store, steps)?;
@@ -157,7 +158,7 @@ pub(crate) fn matches<L: Ledger>(
     requires small { length bytes.now ≤ file_limit }
     ensures due { IfOk result (λ outcome.
         IsMatched (loaded_of store.now) bytes.now outcome ⊎ IsRefused (loaded_of store.now) bytes.now outcome) }
-    ensures judged { IfOk result (λ outcome. IsJudged outcome.ending) }
+    ensures suits { IfOk result (λ outcome. IsOfFiles outcome.ending) }
 {
     match read_queries(alloc, store.meta(), bytes) {
         Ok(program) => lists(alloc, store, &program, steps),

@@ -6,7 +6,7 @@ ghost use Rattle.vt_meta.specs.Reading.{IsFaultOf as IsMetaFaultOf};
 ghost use Rattle.vt_meta.specs.Faults.{Fault as MetaFaultDue};
 ghost use Rattle.vt_model_json.specs.Loading.{Fault as ModelFaultDue, IsFaultOf as IsModelFaultOf};
 ghost use Rattle.vt_cli.specs.Refusals.{refused, refused_meta, refused_model, refused_queries, refusal_number, refusal_name};
-ghost use Rattle.vt_cli.specs.Inside.Prepared.{IsJudged};
+ghost use Rattle.vt_cli.specs.Inside.Prepared.{IsOfFiles};
 
 use crate::ending::{Ending, Outcome, Role};
 use crate::lines;
@@ -29,7 +29,7 @@ fn refuse(alloc: Global, file: Role, code: u16, name: &str, place: u64) -> Resul
 pub(crate) fn metamodel(alloc: Global, fault: MetaFault) -> Result<Outcome, NoMemory>
     ensures due { IfOk result (λ outcome. (due : Result Metamodel MetaFaultDue)
         → IsMetaFaultOf fault due → refused_meta due ≡ Err outcome) }
-    ensures judged { IfOk result (λ outcome. IsJudged outcome.ending) }
+    ensures suits { IfOk result (λ outcome. IsOfFiles outcome.ending) }
 {
     let (code, name, place) = match fault {
         MetaFault::NotJson { place } => (1, "NotJson", place),
@@ -88,7 +88,7 @@ fn name(why: Refusal) -> &'static str
 pub(crate) fn model(alloc: Global, fault: ModelFault) -> Result<Outcome, NoMemory>
     ensures due { IfOk result (λ outcome. (due : Result Model ModelFaultDue)
         → IsModelFaultOf fault due → refused_model due ≡ Err outcome) }
-    ensures judged { IfOk result (λ outcome. IsJudged outcome.ending) }
+    ensures suits { IfOk result (λ outcome. IsOfFiles outcome.ending) }
 {
     match fault {
         ModelFault::NotJson => refuse(alloc, Role::Model, 1, "NotJson", 0),
@@ -103,7 +103,7 @@ pub(crate) fn model(alloc: Global, fault: ModelFault) -> Result<Outcome, NoMemor
 /// What a query file's fault comes to.
 pub(crate) fn queries(alloc: Global, fault: QueryFault) -> Result<Outcome, NoMemory>
     ensures due { IfOk result (λ outcome. refused_queries fault ≡ Some outcome) }
-    ensures judged { IfOk result (λ outcome. IsJudged outcome.ending) }
+    ensures suits { IfOk result (λ outcome. IsOfFiles outcome.ending) }
 {
     match fault {
         QueryFault::NotText { place } => refuse(alloc, Role::Queries, 1, "NotText", place),

@@ -62,12 +62,6 @@ fn word_list(alloc: Global, words: &[&str]) -> Result<List<Text>, NoMemory> {
     Ok(list)
 }
 
-fn number_list(alloc: Global, numbers: &[u64]) -> Result<List<u64>, NoMemory> {
-    let mut list = List::new(alloc);
-    list.extend(numbers)?;
-    Ok(list)
-}
-
 fn add_file(
     files: &mut List<(Text, List<u8>)>,
     alloc: Global,
@@ -79,25 +73,13 @@ fn add_file(
     files.add((Text::new(alloc, name)?, copy))
 }
 
-// A shelf with the files `meta`, `model` and `queries`, as far as they are there.
-fn shelf_of(
-    alloc: Global,
-    meta: Option<&[u8]>,
-    model: Option<&[u8]>,
-    queries: Option<&[u8]>,
-    failing: &[u64],
-) -> Result<MemShelf, NoMemory> {
+// A shelf with these files.
+fn shelf_of(alloc: Global, named: &[(&str, &[u8])]) -> Result<MemShelf, NoMemory> {
     let mut files = List::new(alloc);
-    if let Some(bytes) = meta {
-        add_file(&mut files, alloc, "meta", bytes)?;
+    for (name, bytes) in named {
+        add_file(&mut files, alloc, name, bytes)?;
     }
-    if let Some(bytes) = model {
-        add_file(&mut files, alloc, "model", bytes)?;
-    }
-    if let Some(bytes) = queries {
-        add_file(&mut files, alloc, "queries", bytes)?;
-    }
-    Ok(MemShelf::new(files, number_list(alloc, failing)?))
+    Ok(MemShelf::new(files, List::new(alloc)))
 }
 
 fn run<L: Ledger>(
@@ -118,22 +100,22 @@ fn run<L: Ledger>(
 // How a command ends over a shelf, and what it writes, where some calls of the sink fail.
 fn answer(
     alloc: Global,
-    words: &[&str],
+    words: &List<Text>,
     shelf: MemShelf,
-    failing_puts: &[u64],
+    failing_puts: List<u64>,
 ) -> Result<(Ending, String), Fail> {
-    let words = word_list(alloc, words)?;
     let mut shelf = shelf;
-    let mut out = MemSink::new(alloc, number_list(alloc, failing_puts)?);
-    let ending = run::<Brand>(alloc, &words, &mut shelf, &mut out, Blank::new(1));
+    let mut out = MemSink::new(alloc, failing_puts);
+    let ending = run::<Brand>(alloc, words, &mut shelf, &mut out, Blank::new(1));
     let text = str::from_utf8(out.bytes())?;
     Ok((ending, String::from_str(alloc, text)?))
 }
 
 // How `show` ends over a metamodel and a model, and what it writes.
 fn shown(alloc: Global, meta: &str, model: &[u8]) -> Result<(Ending, String), Fail> {
-    let shelf = shelf_of(alloc, Some(meta.as_bytes()), Some(model), None, &[])?;
-    answer(alloc, &["show", "meta", "model"], shelf, &[])
+    let words = word_list(alloc, &["show", "meta", "model"])?;
+    let shelf = shelf_of(alloc, &[("meta", meta.as_bytes()), ("model", model)])?;
+    answer(alloc, &words, shelf, List::new(alloc))
 }
 
 // How `matches` ends over a metamodel, a model and a query file, and what it writes.
@@ -143,12 +125,14 @@ fn matched(
     model: &str,
     queries: &[u8],
 ) -> Result<(Ending, String), Fail> {
+    let words = word_list(alloc, &["matches", "meta", "model", "queries"])?;
     let shelf = shelf_of(
         alloc,
-        Some(meta.as_bytes()),
-        Some(model.as_bytes()),
-        Some(queries),
-        &[],
+        &[
+            ("meta", meta.as_bytes()),
+            ("model", model.as_bytes()),
+            ("queries", queries),
+        ],
     )?;
-    answer(alloc, &["matches", "meta", "model", "queries"], shelf, &[])
+    answer(alloc, &words, shelf, List::new(alloc))
 }

@@ -175,6 +175,57 @@ const NO_LITERALS: &str = r#"{"name":"p","class":"Node","attributes":{"color":"B
 {"name":"p","class":"Node","attributes":{"color":"Color::RED"}}
 {"name":"p","class":"Node","attributes":{"color":""}}"#;
 
+// ---- tables of cases with their faults: code, name and place, and the document
+
+const METAMODELS: &str = r#"1;NotJson;0;{
+1;NotJson;0;{"format":1,"classes":[{"name":"A"}]
+2;BadShape;0;[]
+2;BadShape;0;{"format":1,"classes":[{"name":"A"},{"name":"1"}]}
+4;UnknownType;2;{"format":1,"enums":[{"name":"E","literals":["L"]}],"classes":[{"name":"A","attributes":[{"name":"e","kind":"E"}]},{"name":"B","attributes":[{"name":"m","kind":"A"}]}]}
+5;SuperCycle;1;{"format":1,"classes":[{"name":"A"},{"name":"B","supers":["C"]},{"name":"C","supers":["B"]}]}
+6;BadOpposite;1;{"format":1,"classes":[{"name":"A"},{"name":"B","references":[{"name":"x","target":"A","opposite":"y"}]}]}
+7;BadContainment;1;{"format":1,"classes":[{"name":"A"},{"name":"B","references":[{"name":"x","target":"C","containment":true,"opposite":"y"}]},{"name":"C","references":[{"name":"y","target":"B","many":true,"opposite":"x"}]}]}
+8;FeatureClash;3;{"format":1,"classes":[{"name":"A"},{"name":"B","supers":["A"],"attributes":[{"name":"m","kind":"int"}]},{"name":"C","supers":["A"],"attributes":[{"name":"m","kind":"int"}]},{"name":"D","supers":["B","C"]}]}"#;
+
+// An earlier fault of a later kind doesn't count. Enums are counted before classes.
+const FIRST_KINDS: &str = r#"3;DuplicateName;2;{"format":1,"enums":[{"name":"E","literals":["L"]}],"classes":[{"name":"A","supers":["Z"]},{"name":"A"},{"name":"A"}]}
+3;DuplicateName;1;{"format":1,"enums":[{"name":"E","literals":["L"]},{"name":"F","literals":["M","M"]}],"classes":[{"name":"int"}]}"#;
+
+// Behind changes that are made, and before one that is refused too.
+const AMONG_OTHERS: &str = r#"103;UnknownClass;1;{"name":"p","class":"Node"},{"name":"q","class":"Zug"},{"name":"r","class":"Part"}
+104;AbstractClass;1;{"name":"p","class":"Node"},{"name":"q","class":"Part"},{"name":"p","class":"Node"}
+105;NameTaken;2;{"name":"p","class":"Node"},{"name":"q","class":"Node"},{"name":"p","class":"Track"},{"name":"_1","class":"Node"}
+106;ReservedName;1;{"name":"_0","class":"Node"},{"name":"_2","class":"Node"},{"name":"r","class":"Zug"}
+107;UnknownFeature;4;{"name":"p","class":"Node","attributes":{"w":1}},{"name":"q","class":"Track","attributes":{"w":1,"length":2},"links":{"from":["r"]}}
+108;WrongKind;2;{"name":"p","class":"Node","attributes":{"zug":1,"on":7,"color":"RED"}}
+109;WrongValue;3;{"name":"p","class":"Node","attributes":{"color":"GREEN"}},{"name":"q","class":"Node","attributes":{"w":"","color":"BLUE"}}
+101;UnknownObject;4;{"name":"p","class":"Node","links":{"to":["q","r","t"]}},{"name":"q","class":"Node"},{"name":"t","class":"Track"}
+110;WrongTarget;4;{"name":"p","class":"Node","links":{"to":["q","t","r"]}},{"name":"q","class":"Node"},{"name":"t","class":"Track"}
+111;ContainmentCycle;5;{"name":"p","class":"Node","links":{"parts":["q"]}},{"name":"q","class":"Node","links":{"to":["s"],"parts":["r","p"]}},{"name":"r","class":"Node"}"#;
+
+// The keys rise within an object, and attributes come before all links.
+const OUT_OF_ORDER: &str = r#"108;WrongKind;3;{"name":"p","class":"Node","links":{"to":["r"]},"attributes":{"w":1}},{"name":"q","class":"Node","attributes":{"w":""}}
+107;UnknownFeature;1;{"name":"p","class":"Node","links":{"to":["r"],"from":["p"]}}"#;
+
+const IN_ITSELF: &str =
+    r#"111;ContainmentCycle;1;{"name":"p","class":"Node","links":{"parts":["p"]}}"#;
+
+// Of a change's refusals the first is told.
+const TWO_REFUSALS: &str = r#"103;UnknownClass;1;{"name":"p","class":"Node"},{"name":"p","class":"Zug"}
+104;AbstractClass;1;{"name":"p","class":"Node"},{"name":"p","class":"Part"}
+105;NameTaken;1;{"name":"_0","class":"Node"},{"name":"_0","class":"Node"}
+101;UnknownObject;1;{"name":"p","class":"Node","links":{"zug":["r"]}}
+101;UnknownObject;1;{"name":"p","class":"Node","links":{"w":["r"]}}"#;
+
+// A line of such a table, in its parts.
+fn fault_and_document(line: &str) -> Result<((u16, &str, u64), &str), Fail> {
+    let mut parts = line.split(';');
+    let code = parts.next().unwrap_or("").parse::<u16>()?;
+    let name = parts.next().unwrap_or("");
+    let place = parts.next().unwrap_or("").parse::<u64>()?;
+    Ok(((code, name, place), parts.next().unwrap_or("")))
+}
+
 // A file is refused, with this fault at this place and the line that says so.
 fn assert_refused(
     rt: &impl Abort,
@@ -218,51 +269,11 @@ fn with_objects(alloc: Global, objects: &str) -> Result<String, Fail> {
 #[test]
 fn a_metamodel_is_refused_for_its_first_fault(rt: HostRuntime) -> Result<(), Fail> {
     let alloc = rt.alloc();
-    for (meta, fault) in [
-        ("{", (1, "NotJson", 0)),
-        (r#"{"format":1,"classes":[{"name":"A"}]"#, (1, "NotJson", 0)),
-        ("[]", (2, "BadShape", 0)),
-        (
-            r#"{"format":1,"classes":[{"name":"A"},{"name":"1"}]}"#,
-            (2, "BadShape", 0),
-        ),
-        // An earlier fault of a later kind doesn't count. Enums are counted before classes.
-        (
-            r#"{"format":1,"enums":[{"name":"E","literals":["L"]}],"classes":[{"name":"A","supers":["Z"]},{"name":"A"},{"name":"A"}]}"#,
-            (3, "DuplicateName", 2),
-        ),
-        (
-            r#"{"format":1,"enums":[{"name":"E","literals":["L"]},{"name":"F","literals":["M","M"]}],"classes":[{"name":"int"}]}"#,
-            (3, "DuplicateName", 1),
-        ),
-        (
-            r#"{"format":1,"enums":[{"name":"E","literals":["L"]}],"classes":[{"name":"A","attributes":[{"name":"e","kind":"E"}]},{"name":"B","attributes":[{"name":"m","kind":"A"}]}]}"#,
-            (4, "UnknownType", 2),
-        ),
-        (
-            r#"{"format":1,"classes":[{"name":"A"},{"name":"B","supers":["C"]},{"name":"C","supers":["B"]}]}"#,
-            (5, "SuperCycle", 1),
-        ),
-        (
-            r#"{"format":1,"classes":[{"name":"A"},{"name":"B","references":[{"name":"x","target":"A","opposite":"y"}]}]}"#,
-            (6, "BadOpposite", 1),
-        ),
-        (
-            concat!(
-                r#"{"format":1,"classes":[{"name":"A"},{"name":"B","references":[{"name":"x","target":"C","containment":true,"opposite":"y"}]},"#,
-                r#"{"name":"C","references":[{"name":"y","target":"B","many":true,"opposite":"x"}]}]}"#,
-            ),
-            (7, "BadContainment", 1),
-        ),
-        (
-            concat!(
-                r#"{"format":1,"classes":[{"name":"A"},{"name":"B","supers":["A"],"attributes":[{"name":"m","kind":"int"}]},"#,
-                r#"{"name":"C","supers":["A"],"attributes":[{"name":"m","kind":"int"}]},{"name":"D","supers":["B","C"]}]}"#,
-            ),
-            (8, "FeatureClash", 3),
-        ),
-    ] {
-        assert_refused(&rt, alloc, meta, "{", Role::Metamodel, fault)?;
+    for table in [METAMODELS, FIRST_KINDS] {
+        for line in table.lines() {
+            let (fault, meta) = fault_and_document(line)?;
+            assert_refused(&rt, alloc, meta, "{", Role::Metamodel, fault)?;
+        }
     }
     // One literal too many: the place is the count.
     let mut meta = String::from_str(alloc, r#"{"format":1,"enums":[{"name":"E","literals":["L""#)?;
@@ -331,86 +342,12 @@ fn a_model_is_refused_for_its_first_refused_change(rt: HostRuntime) -> Result<()
             assert_no_model(&rt, alloc, model.as_str(), fault)?;
         }
     }
-    // Behind changes that are made, and before one that is refused too.
-    for (objects, fault) in [
-        (
-            r#"{"name":"p","class":"Node"},{"name":"q","class":"Zug"},{"name":"r","class":"Part"}"#,
-            (103, "UnknownClass", 1),
-        ),
-        (
-            r#"{"name":"p","class":"Node"},{"name":"q","class":"Part"},{"name":"p","class":"Node"}"#,
-            (104, "AbstractClass", 1),
-        ),
-        (
-            r#"{"name":"p","class":"Node"},{"name":"q","class":"Node"},{"name":"p","class":"Track"},{"name":"_1","class":"Node"}"#,
-            (105, "NameTaken", 2),
-        ),
-        (
-            r#"{"name":"_0","class":"Node"},{"name":"_2","class":"Node"},{"name":"r","class":"Zug"}"#,
-            (106, "ReservedName", 1),
-        ),
-        (
-            r#"{"name":"p","class":"Node","attributes":{"w":1}},{"name":"q","class":"Track","attributes":{"w":1,"length":2},"links":{"from":["r"]}}"#,
-            (107, "UnknownFeature", 4),
-        ),
-        (
-            r#"{"name":"p","class":"Node","attributes":{"zug":1,"on":7,"color":"RED"}}"#,
-            (108, "WrongKind", 2),
-        ),
-        (
-            r#"{"name":"p","class":"Node","attributes":{"color":"GREEN"}},{"name":"q","class":"Node","attributes":{"w":"","color":"BLUE"}}"#,
-            (109, "WrongValue", 3),
-        ),
-        (
-            r#"{"name":"p","class":"Node","links":{"to":["q","r","t"]}},{"name":"q","class":"Node"},{"name":"t","class":"Track"}"#,
-            (101, "UnknownObject", 4),
-        ),
-        (
-            r#"{"name":"p","class":"Node","links":{"to":["q","t","r"]}},{"name":"q","class":"Node"},{"name":"t","class":"Track"}"#,
-            (110, "WrongTarget", 4),
-        ),
-        (
-            r#"{"name":"p","class":"Node","links":{"parts":["q"]}},{"name":"q","class":"Node","links":{"to":["s"],"parts":["r","p"]}},{"name":"r","class":"Node"}"#,
-            (111, "ContainmentCycle", 5),
-        ),
-        // The keys rise within an object, and attributes come before all links.
-        (
-            r#"{"name":"p","class":"Node","links":{"to":["r"]},"attributes":{"w":1}},{"name":"q","class":"Node","attributes":{"w":""}}"#,
-            (108, "WrongKind", 3),
-        ),
-        (
-            r#"{"name":"p","class":"Node","links":{"to":["r"],"from":["p"]}}"#,
-            (107, "UnknownFeature", 1),
-        ),
-        // An object in itself.
-        (
-            r#"{"name":"p","class":"Node","links":{"parts":["p"]}}"#,
-            (111, "ContainmentCycle", 1),
-        ),
-        // Of a change's refusals the first is told.
-        (
-            r#"{"name":"p","class":"Node"},{"name":"p","class":"Zug"}"#,
-            (103, "UnknownClass", 1),
-        ),
-        (
-            r#"{"name":"p","class":"Node"},{"name":"p","class":"Part"}"#,
-            (104, "AbstractClass", 1),
-        ),
-        (
-            r#"{"name":"_0","class":"Node"},{"name":"_0","class":"Node"}"#,
-            (105, "NameTaken", 1),
-        ),
-        (
-            r#"{"name":"p","class":"Node","links":{"zug":["r"]}}"#,
-            (101, "UnknownObject", 1),
-        ),
-        (
-            r#"{"name":"p","class":"Node","links":{"w":["r"]}}"#,
-            (101, "UnknownObject", 1),
-        ),
-    ] {
-        let model = with_objects(alloc, objects)?;
-        assert_no_model(&rt, alloc, model.as_str(), fault)?;
+    for table in [AMONG_OTHERS, OUT_OF_ORDER, IN_ITSELF, TWO_REFUSALS] {
+        for line in table.lines() {
+            let (fault, objects) = fault_and_document(line)?;
+            let model = with_objects(alloc, objects)?;
+            assert_no_model(&rt, alloc, model.as_str(), fault)?;
+        }
     }
     Ok(())
 }
