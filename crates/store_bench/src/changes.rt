@@ -2,10 +2,16 @@
 use crate::scene::Scene;
 use std::alloc::Global;
 use vt_base::Text;
-use vt_meta::Given;
-use vt_store::{Store, StoreFault};
+use vt_store::{Change, Given, Store, StoreFault};
 
 // ---- one change
+
+fn make(alloc: Global, store: &mut Store, change: &Change) -> Result<(), StoreFault> {
+    let edit = store.apply(alloc, change)?;
+    store.revert(edit);
+    store.apply(alloc, change)?;
+    Ok(())
+}
 
 fn create_one(
     alloc: Global,
@@ -13,10 +19,12 @@ fn create_one(
     name: &Text,
     class: &Text,
 ) -> Result<(), StoreFault> {
-    let edit = store.create(alloc, name, class, None)?;
-    store.revert(edit);
-    store.create(alloc, name, class, None)?;
-    Ok(())
+    let change = Change::Create {
+        name: name.share(),
+        class: class.share(),
+        number: None,
+    };
+    make(alloc, store, &change)
 }
 
 fn link_one(
@@ -26,10 +34,12 @@ fn link_one(
     holds: &Text,
     book: &Text,
 ) -> Result<(), StoreFault> {
-    let edit = store.link(alloc, shelf, holds, book)?;
-    store.revert(edit);
-    store.link(alloc, shelf, holds, book)?;
-    Ok(())
+    let change = Change::Link {
+        name: shelf.share(),
+        reference: holds.share(),
+        target: book.share(),
+    };
+    make(alloc, store, &change)
 }
 
 fn set_one(
@@ -39,18 +49,17 @@ fn set_one(
     pages: &Text,
     count: i64,
 ) -> Result<(), StoreFault> {
-    let count = Given::Int(count);
-    let edit = store.set(alloc, book, pages, &count)?;
-    store.revert(edit);
-    store.set(alloc, book, pages, &count)?;
-    Ok(())
+    let change = Change::Set {
+        name: book.share(),
+        attr: pages.share(),
+        value: Given::Int(count),
+    };
+    make(alloc, store, &change)
 }
 
 fn delete_one(alloc: Global, store: &mut Store, name: &Text) -> Result<(), StoreFault> {
-    let edit = store.delete(alloc, name)?;
-    store.revert(edit);
-    store.delete(alloc, name)?;
-    Ok(())
+    let change = Change::Delete { name: name.share() };
+    make(alloc, store, &change)
 }
 
 // ---- a change of many

@@ -1,12 +1,17 @@
 // Why a reading stops.
 use std::alloc::{AllocError, AllocFailed};
+use thiserror::Error;
 use vt_base::NoMemory;
 
 /// Why a reading stops.
-#[derive(Clone, Copy, Debug, PartialEq, Eq)]
+#[derive(Clone, Copy, Debug, PartialEq, Eq, Drop, Error)]
 pub enum Stop {
-    /// The next lexeme can't stand there, or none is left: so many are left, 0 at the end.
+    /// No value that the grammar spells has the next lexeme here, as the second comma in `(a,, b)`,
+    /// or the lexemes end before it does, as `(a,`: so many are left, 0 at the end.
+    #[error("the lexemes go wrong where {0} of them are left")]
     Fault(usize),
+    /// Memory ran out, whatever the lexemes are.
+    #[error("memory ran out")]
     NoMemory,
 }
 

@@ -1,4 +1,5 @@
-//! Declarations as `pattern Name(a, b);`, read by a grammar, and what their faults are.
+//! Declarations as `pattern Name(a, b);`, read by a grammar, and what their faults are. In a table each
+//! line is a case: words with blanks between them, which are lexemes, and what they give.
 ghost use Rattle.std.specs.Prelude.{◌≡◌};
 ghost use Rattle.vt_grammar.specs.Inside.Heading.{name, names};
 ghost use Rattle.vt_grammar.specs.Reading.{read as reading};
@@ -105,9 +106,9 @@ fn symbol_of(word: &str) -> Symbol {
 }
 
 // The lexemes of words, all on line 1.
-fn lexemes(alloc: Global, words: &[&str]) -> Result<Vec<Lexeme>, Fail> {
+fn lexemes(alloc: Global, words: &str) -> Result<Vec<Lexeme>, Fail> {
     let mut all = Vec::new(alloc);
-    for word in words {
+    for word in words.split_whitespace() {
         all.push(Lexeme {
             symbol: symbol_of(word),
             text: Text::new(alloc, word)?,
@@ -118,7 +119,7 @@ fn lexemes(alloc: Global, words: &[&str]) -> Result<Vec<Lexeme>, Fail> {
 }
 
 // A declaration as it is written, or how many lexemes are left at its fault.
-fn outcome(alloc: Global, words: &[&str]) -> Result<String, Fail> {
+fn outcome(alloc: Global, words: &str) -> Result<String, Fail> {
     let lexemes = lexemes(alloc, words)?;
     let lexemes = lexemes.as_slice();
     let declaration = match whole(lexemes, read_declaration(alloc, lexemes)) {
@@ -134,33 +135,20 @@ fn outcome(alloc: Global, words: &[&str]) -> Result<String, Fail> {
     Ok(all)
 }
 
-#[test]
-fn declarations_are_read_or_their_fault_is_found(rt: HostRuntime) -> Result<(), Fail> {
-    let cases: [(&[&str], &str); 9] = [
-        (&["pattern", "p", "(", "a", ")", ";"], "p a"),
-        (
-            &["pattern", "p", "(", "a", ",", "b", ",", "c", ")", ";"],
-            "p a b c",
-        ),
-        // The first lexeme that can't stand.
-        (&["p", "(", "a", ")", ";"], "5 left"),
-        (&["pattern", "p", "(", ")", ";"], "2 left"),
-        (&["pattern", "p", "(", "a", "b", ")", ";"], "3 left"),
-        (&["pattern", "p", "(", "a", ",", ")", ";"], "2 left"),
-        // A front of a declaration: the fault is at the end.
-        (&[], "0 left"),
-        (&["pattern", "p", "(", "a", ",", "b"], "0 left"),
-        // A declaration, and more.
-        (&["pattern", "p", "(", "a", ")", ";", ";"], "1 left"),
-    ];
-    for (words, answer) in cases {
-        assert_eq!(rt; outcome(rt.alloc(), words)?.as_str(), answer, "{words:?}");
-    }
-    Ok(())
-}
+// Declarations; then those whose first wrong lexeme can't stand, whose end comes too early, and one
+// with more behind it.
+const DECLARATIONS: &str = "pattern p ( a ) ; → p a
+pattern p ( a , b , c ) ; → p a b c
+p ( a ) ; → 5 left
+pattern p ( ) ; → 2 left
+pattern p ( a b ) ; → 3 left
+pattern p ( a , ) ; → 2 left
+ → 0 left
+pattern p ( a , b → 0 left
+pattern p ( a ) ; ; → 1 left";
 
 // How many lexemes a balanced list has, and how many stand after it.
-fn lengths(alloc: Global, words: &[&str]) -> Result<String, Fail> {
+fn lengths(alloc: Global, words: &str) -> Result<String, Fail> {
     let lexemes = lexemes(alloc, words)?;
     match balanced(alloc, lexemes.as_slice()) {
         Ok((inner, rest)) => {
@@ -172,33 +160,34 @@ fn lengths(alloc: Global, words: &[&str]) -> Result<String, Fail> {
     }
 }
 
+// Lists that end before a bracket that closes none of their own; then those with a bracket that is
+// still open.
+const BALANCED: &str = " → 0 and 0
+) ; → 0 and 2
+a , b ) ; → 3 and 2
+( a [ b ] { } ) c ) ; → 9 and 2
+a ] → 1 and 1
+( a → 0 left
+( a ] → 1 left
+( [ a ) ] → 2 left";
+
 #[test]
-fn a_balanced_list_ends_before_a_bracket_that_closes_none_of_its_own(
-    rt: HostRuntime,
-) -> Result<(), Fail> {
-    let cases: [(&[&str], &str); 8] = [
-        (&[], "0 and 0"),
-        (&[")", ";"], "0 and 2"),
-        (&["a", ",", "b", ")", ";"], "3 and 2"),
-        (
-            &["(", "a", "[", "b", "]", "{", "}", ")", "c", ")", ";"],
-            "9 and 2",
-        ),
-        (&["a", "]"], "1 and 1"),
-        // A bracket that is still open.
-        (&["(", "a"], "0 left"),
-        (&["(", "a", "]"], "1 left"),
-        (&["(", "[", "a", ")", "]"], "2 left"),
-    ];
-    for (words, answer) in cases {
-        assert_eq!(rt; lengths(rt.alloc(), words)?.as_str(), answer, "{words:?}");
+fn lexemes_are_read_or_their_fault_is_found(rt: HostRuntime) -> Result<(), Fail> {
+    let alloc = rt.alloc();
+    for line in DECLARATIONS.lines() {
+        let (words, answer) = line.split_once(" → ").ok_or("no answer")?;
+        assert_eq!(rt; outcome(alloc, words)?.as_str(), answer, "{line}");
+    }
+    for line in BALANCED.lines() {
+        let (words, answer) = line.split_once(" → ").ok_or("no answer")?;
+        assert_eq!(rt; lengths(alloc, words)?.as_str(), answer, "{line}");
     }
     Ok(())
 }
 
 #[test]
 fn a_symbol_is_next_where_its_lexeme_is(rt: HostRuntime) -> Result<(), Fail> {
-    let lexemes = lexemes(rt.alloc(), &["a", ",", "b"])?;
+    let lexemes = lexemes(rt.alloc(), "a , b")?;
     let lexemes = lexemes.as_slice();
     assert_eq!(rt; is_next(lexemes, Symbol::Identifier), true);
     assert_eq!(rt; is_next(lexemes, Symbol::Comma), false);

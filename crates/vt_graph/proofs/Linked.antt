@@ -6,5 +6,4 @@ pub mod Bare
 pub mod Changed
 pub mod Steps
 pub mod Held
-pub mod Among
 pub mod Fitting

@@ -8,9 +8,9 @@ use Rattle.std.specs.declared.cmp.Ordering.{Ordering}
 use Rattle.std.specs.declared.cmp.Ordering.TheVariants.{Less}
 use Rattle.std.proofs.lemmas.Bool.{cases_eq, cases_order}
 use Rattle.std.proofs.lemmas.Cmp.{on_total}
-use Rattle.std.proofs.lemmas.List.{map-append, append-nil}
+use Rattle.std.proofs.lemmas.List.{map-append, append-nil, get_or-set_same, get_or-set_other}
 use Rattle.std.proofs.lemmas.List.Elements.{filter-append}
-use Rattle.std.proofs.lemmas.Option.{get_or_from_slice_get}
+use Rattle.std.proofs.lemmas.Option.{get_or_from_slice_get, slice_get_read, slice_get_cases, slice_get_past}
 use Rattle.vt_base.specs.declared.numbers.ObjId.{ObjId}
 use Rattle.vt_base.specs.declared.numbers.ClassId.{ClassId}
 use Rattle.vt_model.specs.Metamodel.{Metamodel, isa}
@@ -25,18 +25,17 @@ use Rattle.vt_facts.proofs.RisingLemmas.{rises-none, rises-cons, first_below, re
 
 -- ---- one listing among others
 
-module _ {X : Type 0} where
-  pub slice_get-set_same : (xs : List X) (i : ℕ) (x : X) → i < length xs → slice_get (set xs i x) i ≡ Some x
-  slice_get-set_same [] i x few = absurd (omega arith)
-  slice_get-set_same (y ∷ ys) zero x few = refl
-  slice_get-set_same (y ∷ ys) (suc i) x few = slice_get-set_same ys i x (omega arith)
+module _ {X : Type 0} (xs : List X) (i : ℕ) (x : X) where
+  -- what is put in a place stands there
+  set_here : i < length xs → slice_get (set xs i x) i ≡ Some x
+  set_here few = slice_get_read (set xs i x) (length xs) i x (sym (length-set xs i x)) few (sym (get_or-set_same xs i x x few))
 
-  pub slice_get-set_other : (xs : List X) (i j : ℕ) (x : X) → j ≢ i → slice_get (set xs i x) j ≡ slice_get xs j
-  slice_get-set_other [] i j x apart = refl
-  slice_get-set_other (y ∷ ys) zero zero x apart = absurd (apart refl)
-  slice_get-set_other (y ∷ ys) zero (suc j) x apart = refl
-  slice_get-set_other (y ∷ ys) (suc i) zero x apart = refl
-  slice_get-set_other (y ∷ ys) (suc i) (suc j) x apart = slice_get-set_other ys i j x (λ e. apart (ap suc e))
+  -- and each other place is as before
+  set_elsewhere : (j : ℕ) → j ≢ i → slice_get (set xs i x) j ≡ slice_get xs j
+  set_elsewhere j apart = elim (slice_get_cases xs j).1 [
+    | inl at ↦ slice_get_read (set xs i x) (length xs) j at.0 (sym (length-set xs i x)) at.1 (sym (get_or-set_other xs i j x at.0 apart ∙ at.3)) ∙ sym at.2
+    | inr past ↦ slice_get_past (set xs i x) j (subst (λ n. n ≤ j) (sym (length-set xs i x)) past.0) ∙ sym past.1
+  ]
 
 abbrev pub class_order : ClassId → ClassId → Ordering
 class_order c d = nat_cmp c.0 d.0
@@ -54,7 +53,7 @@ module _ (f : List ObjId → List ObjId) where
   changed_at-other [] listings d out = refl
   changed_at-other (c ∷ classes) listings d out =
       changed_at-other classes (set listings c.0 (f (get_or listings c.0 []))) d (λ later. out (Contains-behind c d classes later))
-      ∙ slice_get-set_other listings c.0 d.0 (f (get_or listings c.0 [])) (λ e. out (subst (Contains (c ∷ classes)) (same_class c d (sym e)) (Contains-head c classes)))
+      ∙ set_elsewhere listings c.0 (f (get_or listings c.0 [])) d.0 (λ e. out (subst (Contains (c ∷ classes)) (same_class c d (sym e)) (Contains-head c classes)))
 
   -- the listing of one that is among them is changed once
   pub changed_at-own : (classes : List ClassId) (listings : List (List ObjId)) (d : ClassId) (objects : List ObjId)
@@ -67,7 +66,7 @@ module _ (f : List ObjId → List ObjId) where
           → slice_get (changed_at f classes (set listings e.0 (f (get_or listings e.0 [])))) e.0 ≡ Some (f objects)
       here e at few out =
           changed_at-other classes (set listings e.0 (f (get_or listings e.0 []))) e out
-          ∙ slice_get-set_same listings e.0 (f (get_or listings e.0 [])) few
+          ∙ set_here listings e.0 (f (get_or listings e.0 [])) few
           ∙ ap (λ xs. Some (f xs)) (get_or_from_slice_get listings e.0 objects [] at)
 
       by : (Contains classes d → slice_get (set listings c.0 (f (get_or listings c.0 []))) d.0 ≡ Some objects → d.0 < length (set listings c.0 (f (get_or listings c.0 [])))
@@ -77,7 +76,7 @@ module _ (f : List ObjId → List ObjId) where
           (here d at few (λ later. not_below_itself class_order (on_total (λ (e : ClassId). e.0) nat_cmp_total) d (subst (λ e. class_order e d ≡ Less) is (first_below class_order c classes rise d later))))
       by rest (inr later) =
           rest later
-          (slice_get-set_other listings c.0 d.0 (f (get_or listings c.0 [])) (λ e. not_below_itself class_order (on_total (λ (x : ClassId). x.0) nat_cmp_total) d
+          (set_elsewhere listings c.0 (f (get_or listings c.0 [])) d.0 (λ e. not_below_itself class_order (on_total (λ (x : ClassId). x.0) nat_cmp_total) d
           (subst (λ x. class_order x d ≡ Less) (same_class c d (sym e)) (first_below class_order c classes rise d later))) ∙ at)
           (subst (λ n. d.0 < n) (sym (length-set listings c.0 (f (get_or listings c.0 [])))) few)
 

@@ -20,4 +20,5 @@ mod values;
 // A model by its slots, and what becomes of a name.
 pub use buried::Buried;
 pub use graph::Graph;
+pub use made::default_value;
 pub use seen::Seen;

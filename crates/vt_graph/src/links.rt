@@ -1,5 +1,5 @@
 // Links, at both ends of each.
-ghost use Rattle.std.specs.Prelude.{◌≡◌, ◌↔◌, not, All, Contains, filter, map, option_map, IsSome, IsTrue, IsOk, OnOk, OnErr};
+ghost use Rattle.std.specs.Prelude.{◌≡◌, not, All, Contains, filter, map, option_map, IsSome, IsOk, OnOk, OnErr};
 ghost use Rattle.std.specs.BTreeSet.{insert_key};
 ghost use Rattle.std.specs.Option.{option_copied};
 ghost use Rattle.vt_model.specs.Linking.{link_order, is_link};
@@ -8,7 +8,6 @@ ghost use Rattle.vt_slots.specs.Slots.{body_at, ends_on, ends_at, bare};
 ghost use Rattle.vt_slots.specs.declared.slot.Side.TheVariants.{Outgoing, Incoming};
 ghost use Rattle.vt_graph.specs.Asked.{live_at, others_at};
 ghost use Rattle.vt_graph.specs.Room.{KeepsRoom, HasRoomFor};
-ghost use Rattle.vt_graph.specs.Inside.Indexed.{IsTwoEnded};
 ghost use Rattle.vt_graph.specs.Inside.Ended.{AllEndsRise, AllEndsFit, AddsLink, DropsLink, SameObjects, AllKeepRoom, HasRoomAt};
 
 use crate::graph::Graph;
@@ -41,11 +40,11 @@ impl Graph {
         }
     }
 
-    /// Adds a link. Where it stands already, nothing changes. It never fails where both its ends
-    /// have room.
+    /// Adds a link that doesn't stand. It never fails where both its ends have room.
     pub fn add_link(&mut self, link: Link) -> Result<(), NoMemory>
         requires source { IsSome (live_at self.old.model link.source) }
         requires target { IsSome (live_at self.old.model link.target) }
+        requires fresh { Contains self.old.model.links link → ⊥ }
         ensures meta { self.new.meta ≡ self.old.meta }
         ensures added { OnOk result (self.new.model ≡ record self.old.model { links = insert_key link_order self.old.model.links link }) }
         ensures unchanged { OnErr result (self.new.model ≡ self.old.model) }
@@ -78,49 +77,9 @@ fn ends_of(slots: &Slots, o: ObjId, side: Side) -> Option<&Ends>
     }
 }
 
-// Whether the link stands at its source.
-fn is_listed(slots: &Slots, link: Link) -> bool
-    ensures { IsTrue result ↔ Contains (objects_of (ends_at slots.now link.source Outgoing) link.reference) link.target }
-{
-    match ends_of(slots, link.source, Side::Outgoing) {
-        Some(ends) => is_among(ends.objects(link.reference), link.target),
-        None => false,
-    }
-}
-
-// Whether an object is one of those that rise.
-fn is_among(objects: &[ObjId], o: ObjId) -> bool
-    requires { ObjectsRise objects.now }
-    ensures { IsTrue result ↔ Contains objects.now o }
-{
-    objects.binary_search_by_key(&o.0, |p| p.0).is_ok()
-}
-
-// Adds a link at both its ends. Where it stands already, nothing changes.
-fn add_ends(slots: &mut Slots, link: Link) -> Result<(), NoMemory>
-    requires source { IsSome (body_at slots.old link.source) }
-    requires target { IsSome (body_at slots.old link.target) }
-    requires rise { AllEndsRise slots.old }
-    requires fit { AllEndsFit slots.old }
-    requires two_ended { IsTwoEnded slots.old }
-    ensures bare { map bare slots.new ≡ map bare slots.old }
-    ensures added { OnOk result (AddsLink slots.old slots.new link) }
-    ensures unchanged { OnErr result (SameObjects slots.old slots.new) }
-    ensures room { AllKeepRoom slots.old slots.new }
-    ensures rise { AllEndsRise slots.new }
-    ensures fit { AllEndsFit slots.new }
-    ensures two_ended { IsTwoEnded slots.new }
-    ensures succeeds { HasRoomAt slots.old link.source Outgoing link.reference → HasRoomAt slots.old link.target Incoming link.reference → IsOk result }
-{
-    if is_listed(slots, link) {
-        return Ok(());
-    }
-    add_new_ends(slots, link)
-}
-
 // Adds a link at both its ends, where it doesn't stand. Where the second end can't be added, the
 // first is taken back.
-fn add_new_ends(slots: &mut Slots, link: Link) -> Result<(), NoMemory>
+fn add_ends(slots: &mut Slots, link: Link) -> Result<(), NoMemory>
     requires source { IsSome (body_at slots.old link.source) }
     requires target { IsSome (body_at slots.old link.target) }
     requires rise { AllEndsRise slots.old }

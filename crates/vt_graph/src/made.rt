@@ -9,8 +9,8 @@ use std::alloc::Global;
 use vt_base::{ClassId, Kind, List, NoMemory, ObjId, Value};
 use vt_slots::{Body, Ends, Held, Values};
 
-// A string has none.
-fn default_value(kind: Kind) -> Option<Value>
+/// The value that an attribute of a kind has at first. A string has none.
+pub fn default_value(kind: Kind) -> Option<Value>
     ensures { result ≡ default_value kind }
 {
     match kind {

@@ -35,17 +35,6 @@ fn slots(alloc: Global) -> Result<Slots, NoMemory>
 }
 
 #[test]
-fn a_value_is_put(rt: HostRuntime) -> Result<(), Fail> {
-    let mut values = values(rt.alloc())?;
-    assert!(rt; values.get(AttrId(5)).is_none());
-    let before = values.put(AttrId(5), Some(Value::Int(3)));
-    assert!(rt; before.is_none());
-    assert!(rt; values.get(AttrId(5)) == Some(&Value::Int(3)));
-    assert!(rt; values.get(AttrId(4)).is_none());
-    Ok(())
-}
-
-#[test]
 fn objects_of_a_reference_rise(rt: HostRuntime) -> Result<(), Fail> {
     let alloc = rt.alloc();
     let mut ends = Ends::new(alloc);
@@ -91,20 +80,6 @@ fn an_object_is_found(rt: HostRuntime) -> Result<(), Fail> {
     assert!(rt; slots.pop().is_none());
     assert!(rt; slots.named("two").is_none());
     assert_eq!(rt; slots.len(), 0);
-    Ok(())
-}
-
-#[test]
-fn a_body_is_taken_and_given_back(rt: HostRuntime) -> Result<(), Fail> {
-    let mut slots = slots(rt.alloc())?;
-    let Some(body) = slots.take_body(ObjId(2)) else {
-        return Ok(());
-    };
-    assert!(rt; slots.at(ObjId(2)).is_some_and(|slot| slot.body.is_none()));
-    if slots.at(ObjId(2)).is_some() {
-        slots.give_body(ObjId(2), body);
-    }
-    assert!(rt; slots.at(ObjId(2)).is_some_and(|slot| slot.body.is_some()));
     Ok(())
 }
 

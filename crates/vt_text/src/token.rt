@@ -1,4 +1,6 @@
 // Tokens, and the fault of a text that has none at some place.
+use std::alloc::{AllocError, AllocFailed};
+use thiserror::Error;
 use vt_base::NoMemory;
 
 /// The five sorts of token.
@@ -26,11 +28,37 @@ pub struct Token {
 }
 
 /// Why a text has no list of tokens.
-#[derive(Clone, Copy, Debug, PartialEq, Eq)]
+#[derive(Clone, Copy, Debug, PartialEq, Eq, Drop, Error)]
 pub enum TokenFault {
-    /// The first text that is neither a token nor between tokens begins on this line.
+    /// The first text that is neither a token nor between tokens begins on this line, as `1a`, `$`
+    /// or a string without its last quote.
+    #[error("line {line}: no token begins here")]
     Bad { line: u32 },
+    /// Memory ran out, whatever the text is.
+    #[error("memory ran out")]
     NoMemory,
+}
+
+impl From<AllocError> for TokenFault {
+    ghost use Rattle.std.specs.Prelude.{◌≡◌};
+    ghost use Rattle.vt_text.specs.declared.token.TokenFault.TheVariants.{NoMemory as WantOfMemory};
+
+    ghost from_gives = { λ _ e. e ≡ WantOfMemory };
+
+    fn from(_: AllocError) -> TokenFault {
+        TokenFault::NoMemory
+    }
+}
+
+impl<T: Drop> From<AllocFailed<T>> for TokenFault {
+    ghost use Rattle.std.specs.Prelude.{◌≡◌};
+    ghost use Rattle.vt_text.specs.declared.token.TokenFault.TheVariants.{NoMemory as WantOfMemory};
+
+    ghost from_gives = { λ _ e. e ≡ WantOfMemory };
+
+    fn from(_: AllocFailed<T>) -> TokenFault {
+        TokenFault::NoMemory
+    }
 }
 
 impl From<NoMemory> for TokenFault {

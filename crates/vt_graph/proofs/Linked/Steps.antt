@@ -149,15 +149,6 @@ taken_back old mid late new link rise fresh adds first same second drops third =
     by p t (inr apart) = λ r.
         ap (λ ls. objects_of ls r) (third p t apart) ∙ same_step mid late link.target Incoming second same p t r ∙ ap (λ ls. objects_of ls r) (first p t apart)
 
--- ---- a link that stands
-
-pub adds_itself : (slots : List Slot) (link : Link) → AllEndsRise slots → IsTwoEnded slots → Contains (objects_of (ends_at slots link.source Outgoing) link.reference) link.target → AddsLink slots slots link
-adds_itself slots link rise two there = record { ends = at; others = λ o side apart. refl }
-  where
-    at : (side : Side) → AddsEnd (ends_at slots (near_of side link) side) (ends_at slots (near_of side link) side) link.reference (other_of side link)
-    at Outgoing = record { there = sym (in_already (objects_of (ends_at slots link.source Outgoing) link.reference) link.target (objects_of_rise (ends_at slots link.source Outgoing) (rise link.source Outgoing) link.reference) there); others = λ s apart. refl }
-    at Incoming = record { there = sym (in_already (objects_of (ends_at slots link.target Incoming) link.reference) link.source (objects_of_rise (ends_at slots link.target Incoming) (rise link.target Incoming) link.reference) ((two link).0 there)); others = λ s apart. refl }
-
 -- ---- an object that lives lives on
 
 pub lives_on : (old new : List Slot) (o : ObjId) → map bare new ≡ map bare old → IsSome (body_at old o) → IsSome (body_at new o)

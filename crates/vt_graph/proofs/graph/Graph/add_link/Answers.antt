@@ -1,7 +1,11 @@
+use Rattle.std.proofs.Common.{subst}
+use Rattle.std.specs.Prelude.{Contains}
 use Rattle.std.proofs.lemmas.Result.{on_ok_weaker, on_err_weaker}
 use Rattle.vt_slots.specs.declared.slot.Side.TheVariants.{Outgoing, Incoming}
+use Rattle.vt_graph.specs.Held.{Held}
 use Rattle.vt_graph.proofs.Linked.Bare.{ends_rise, indexed_same, listings_same}
-use Rattle.vt_graph.proofs.Linked.Held.{live_body, room_there, model_added, model_stays, places_keep}
+use Rattle.vt_graph.proofs.Linked.Held.{live_body, room_there, two_ended_either, model_added, model_stays, places_keep}
+use Rattle.vt_graph.proofs.Linked.Stored.{listed_link}
 use Rattle.vt_graph.proofs.graph.Graph.add_link.Goals as goal
 
 pub add_ends-requires-clause-source : goal.add_ends-requires-clause-source
@@ -13,9 +17,13 @@ add_ends-requires-clause-target c = live_body _ _ _ _ c.self.view_is c.self.inva
 pub add_ends-requires-clause-rise : goal.add_ends-requires-clause-rise
 add_ends-requires-clause-rise c = ends_rise _ _ _ c.self.invariant.0
 
+pub add_ends-requires-clause-fresh : goal.add_ends-requires-clause-fresh
+add_ends-requires-clause-fresh c there = c.requires.fresh (subst (λ (h : Held). Contains h.model.links c.args.link) c.self.view_is
+    (listed_link c.self.inside.slots c.self.invariant.0.numbers_rise (ends_rise _ _ _ c.self.invariant.0) c.args.link there))
+
 pub invariant_of-self : goal.invariant_of-self
 invariant_of-self c = (
-  indexed_same _ _ c.add_ends.ensures.bare _ _ c.self.invariant.0 c.add_ends.ensures.rise c.add_ends.ensures.fit c.add_ends.ensures.two_ended,
+  indexed_same _ _ c.add_ends.ensures.bare _ _ c.self.invariant.0 c.add_ends.ensures.rise c.add_ends.ensures.fit (two_ended_either _ _ c.args.link c.add_ends.result c.add_ends.ensures.added c.add_ends.ensures.unchanged c.self.invariant.0.two_ended),
   c.self.invariant.1,
   listings_same _ _ c.add_ends.ensures.bare _ _ c.self.invariant.2,
 )

@@ -1,6 +1,6 @@
 -- The rows of the links over the listing of the declaring class are those of the model.
-use Rattle.std.proofs.Common.{◌≡◌, ◌≤◌, ◌<◌, ◌+◌, length, sym, subst}
-use Rattle.std.specs.Prelude.{slice_get, None}
+use Rattle.std.proofs.Common.{◌≡◌, ◌≤◌, ◌<◌, ◌+◌, length, sym, subst, ◌∙◌}
+use Rattle.std.specs.Prelude.{IfOk, slice_get, None}
 use Rattle.vt_model.proofs.SearchLemmas.{slice_get-below}
 use Rattle.vt_graph.specs.Held.{Held}
 use Rattle.vt_graph.proofs.HeldRowsLemmas.{link_rows_held, link_rows_ascend}
@@ -26,7 +26,7 @@ returns-in_ok-rows-in-Some-clause-value g c =
     let i = c.self.inside in
     let same = link_rows_held i.meta i.next i.slots c.args.self.now c.self.view_is c.self.invariant.0 i.listings.items c.as_slice.result.now c.self.invariant.2 c.as_slice.ensures.value
     c.args.r c.in-Some.info.now c.in-Some.ensures c.requires.fit in
-    cc (c.from_ascending.ensures, c.in_ok-rows-in-Some.ensures.value, same)
+    subst (λ rows. IfOk c.from_ascending.result (λ set. set.items ≡ rows)) (c.in_ok-rows-in-Some.ensures.value ∙ same) c.from_ascending.ensures
 
 pub returns-in_ok-rows-in-Some-clause-bound : goal.returns-in_ok-rows-in-Some-clause-bound
 returns-in_ok-rows-in-Some-clause-bound g c =

@@ -7,7 +7,6 @@ use Rattle.vt_slots.specs.Ends.{EndList, number_order, ObjectsRise, objects_of, 
 use Rattle.vt_slots.specs.Inside.Place.{StandsAt, GoesAt}
 use Rattle.vt_slots.proofs.EndsLemmas.{reference_number, rise_with_object, objects_stand, capacity_stands, references_rise_changed, AddsEnd_changed, SameEnds_changed, KeepsRoom_changed, no_capacity, references_rise_put, AddsEnd_put, KeepsRoom_put, All_put}
 use Rattle.vt_slots.proofs.ends.Ends.insert.Goals as goal
-use Rattle.vt_facts.specs.Parts.{◌>>=◌}
 
 -- ---- the reference has a list
 

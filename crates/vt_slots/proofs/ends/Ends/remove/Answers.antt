@@ -4,7 +4,6 @@ use Rattle.vt_slots.specs.Ends.{EndList, ObjectsRise}
 use Rattle.vt_slots.specs.Inside.Place.{StandsAt, GoesAt}
 use Rattle.vt_slots.proofs.EndsLemmas.{reference_number, references_rise_changed, DropsEnd_changed, DropsEnd_absent, SameRoom_changed}
 use Rattle.vt_slots.proofs.ends.Ends.remove.Goals as goal
-use Rattle.vt_facts.specs.Parts.{◌>>=◌}
 
 pub invariant_of-self : goal.invariant_of-self
 invariant_of-self c =

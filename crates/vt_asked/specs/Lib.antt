@@ -1,0 +1,3 @@
+-- words of public clauses; read them from the top
+pub mod Named
+pub mod Asking
