@@ -53,7 +53,6 @@ pub(crate) fn load(
         loaded_from texts.now ≡ Ok (loaded_of store))) }
     ensures refused { IfOk result (λ judged. IfErr judged (λ outcome.
         loaded_from texts.now ≡ Err outcome)) }
-    ensures sound { IfOk result (λ judged. IfOk judged (λ store. IsSound store.meta)) }
     ensures suits { IfOk result (λ judged. IfErr judged (λ outcome. IsOfFiles outcome.ending)) }
 {
     match metamodel(alloc, text_of(texts, Role::Metamodel))? {

@@ -154,8 +154,7 @@ pub(crate) fn matches<L: Ledger>(
     bytes: &[u8],
     steps: &mut Steps<L>,
 ) -> Result<Outcome, NoMemory>
-    requires sound { IsSound store.now.meta }
-    requires small { length bytes.now ≤ file_limit }
+    requires { length bytes.now ≤ file_limit }
     ensures due { IfOk result (λ outcome.
         IsMatched (loaded_of store.now) bytes.now outcome ⊎ IsRefused (loaded_of store.now) bytes.now outcome) }
     ensures suits { IfOk result (λ outcome. IsOfFiles outcome.ending) }

@@ -1,6 +1,5 @@
 // What the words come to over a shelf, and how it is written.
 ghost use Rattle.std.specs.Prelude.{◌≡◌, None, Some, IfOk};
-ghost use Rattle.vt_model.specs.Sound.{IsSound};
 ghost use Rattle.vt_cli.specs.Command.{command_of, AsksNothing, IsWithoutRows};
 ghost use Rattle.vt_cli.specs.Result.{usage, shown, IsDueToModel, IsDueToTexts};
 ghost use Rattle.vt_cli.specs.Inside.Prepared.{AreSmall, IsOfFiles, Prepares, Delivers};
@@ -47,8 +46,7 @@ fn answer_model<L: Ledger>(
     texts: &[(Role, List<u8>)],
     steps: &mut Steps<L>,
 ) -> Result<Outcome, NoMemory>
-    requires sound { IsSound store.now.meta }
-    requires small { AreSmall texts.now }
+    requires { AreSmall texts.now }
     ensures due { IfOk result (λ outcome. IsDueToModel task (loaded_of store.now) texts.now outcome) }
     ensures suits { IfOk result (λ outcome. IsOfFiles outcome.ending) }
     ensures ticks { IsWithoutRows task → steps.new ≡ steps.old }
