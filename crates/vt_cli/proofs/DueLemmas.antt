@@ -17,7 +17,8 @@ use Rattle.vt_vql.specs.declared.fault.QueryFault.TheVariants.{NoMemory}
 use Rattle.vt_cli.specs.Command.{Command, command_of}
 use Rattle.vt_cli.specs.Lists.{match_lists}
 use Rattle.vt_cli.specs.Refusals.{refused_queries}
-use Rattle.vt_cli.specs.Result.{texts_of, text_of, loaded_from, shown, done, IsListed, IsMatched, IsRefused, IsDueTo, IsDueToModel, IsDueToTexts, IsDueToCommand, IsDue, Loaded}
+use Rattle.vt_cli.specs.Texts.{texts_of, text_of}
+use Rattle.vt_cli.specs.Result.{loaded_from, shown, done, IsListed, IsMatched, IsRefused, IsDueTo, IsDueToModel, IsDueToTexts, IsDueToCommand, IsDue, Loaded}
 use Rattle.vt_cli.specs.declared.command.Task.{Task}
 use Rattle.vt_cli.specs.declared.command.Task.TheVariants.{Show, Matches}
 use Rattle.vt_cli.specs.declared.ending.Role.{Role}

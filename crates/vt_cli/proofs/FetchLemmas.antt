@@ -5,7 +5,7 @@ use Rattle.std.specs.List.{AllByRecursion}
 use Rattle.vt_outside.specs.Faults.{Rose}
 use Rattle.vt_outside.specs.Shelf.{NamedFiles, file_at}
 use Rattle.vt_cli.specs.Answer.{AreThere}
-use Rattle.vt_cli.specs.Result.{◌>>=◌, bytes_of, texts_of}
+use Rattle.vt_cli.specs.Texts.{◌>>=◌, bytes_of, texts_of}
 use Rattle.vt_cli.specs.Inside.Prepared.{AreFetched, AreFetchedTo, AreStopped, AreUnread, FailsFile}
 use Rattle.vt_cli.specs.declared.ending.Role.{Role}
 use Rattle.vt_cli.specs.declared.ending.Outcome.{Outcome}

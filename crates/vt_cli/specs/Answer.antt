@@ -7,7 +7,8 @@ use Rattle.vt_outside.specs.Faults.{Rose}
 use Rattle.vt_outside.specs.Sink.{AppendsPrefix}
 use Rattle.vt_cli.specs.Command.{command_of, files_of}
 use Rattle.vt_cli.specs.Lines.{unreadable_line}
-use Rattle.vt_cli.specs.Result.{file_limit, IsDue}
+use Rattle.vt_cli.specs.Texts.{file_limit}
+use Rattle.vt_cli.specs.Result.{IsDue}
 use Rattle.vt_cli.specs.declared.ending.Role.{Role}
 use Rattle.vt_cli.specs.declared.ending.Ending.{Ending}
 use Rattle.vt_cli.specs.declared.ending.Outcome.{Outcome}

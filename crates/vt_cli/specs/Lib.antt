@@ -1,6 +1,7 @@
 -- words of public clauses; read them from the top
 pub mod Command
 pub mod Lines
+pub mod Texts
 pub mod Refusals
 pub mod Lists
 pub mod Result

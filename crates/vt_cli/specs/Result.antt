@@ -1,7 +1,7 @@
 -- What is due to a list of words over told files: an ending and a text.
-use Rattle.std.specs.Prelude.{◌≡◌, ◌⊎◌, ℕ, ◌+◌, Bool, true, false, List, [], ◌∷◌, ◌++◌, length, codes, nat_lt, if◌then◌else◌, Option, Some, None, Result, Ok, Err}
+use Rattle.std.specs.Prelude.{◌≡◌, ◌⊎◌, ℕ, List, ◌++◌, codes, Option, Some, None, Result, Ok, Err}
 use Rattle.vt_base.specs.declared.value.Value.{Value}
-use Rattle.vt_outside.specs.Shelf.{NamedFiles, file_at}
+use Rattle.vt_outside.specs.Shelf.{NamedFiles}
 use Rattle.vt_model.specs.Metamodel.{Metamodel, enum_names}
 use Rattle.vt_model.specs.Model.{Model}
 use Rattle.vt_meta.specs.Reading.{meta_of}
@@ -13,53 +13,16 @@ use Rattle.vt_vql.specs.declared.fault.QueryFault.{QueryFault}
 use Rattle.vt_model_json.specs.Loading.{loaded}
 use Rattle.vt_model_json.specs.Dump.{dump}
 use Rattle.vt_cli.specs.Command.{Command, command_of}
-use Rattle.vt_cli.specs.Lines.{usage_line, missing_line, too_large_line}
+use Rattle.vt_cli.specs.Lines.{usage_line}
+use Rattle.vt_cli.specs.Texts.{◌>>=◌, texts_of, text_of}
 use Rattle.vt_cli.specs.Refusals.{refused_meta, refused_model, refused_queries}
 use Rattle.vt_cli.specs.Lists.{match_lists}
 use Rattle.vt_cli.specs.declared.command.Task.{Task}
 use Rattle.vt_cli.specs.declared.command.Task.TheVariants.{Show, Matches}
 use Rattle.vt_cli.specs.declared.ending.Role.{Role}
 use Rattle.vt_cli.specs.declared.ending.Role.TheVariants as role
-use Rattle.vt_cli.specs.declared.ending.Ending.TheVariants.{Done, Usage, Missing, TooLarge}
+use Rattle.vt_cli.specs.declared.ending.Ending.TheVariants.{Done, Usage}
 use Rattle.vt_cli.specs.declared.ending.Outcome.{Outcome}
-
--- ---- files
-
--- the most bytes of a file
-abbrev pub file_limit : ℕ
-file_limit = 16777216
-
--- the bytes of a file that is there and within the limit
-abbrev pub bytes_of : Role → Option (List ℕ) → Result (List ℕ) Outcome
-bytes_of role None = Err (record { ending = Missing role; text = missing_line role })
-bytes_of role (Some bytes) = if nat_lt file_limit (length bytes)
-    then Err (record { ending = TooLarge role (file_limit + 1); text = too_large_line role (file_limit + 1) })
-    else Ok bytes
-
-infixl 10 ◌>>=◌
--- what comes first decides, unless it lets the rest through
-abbrev pub ◌>>=◌ : {A B : Type 0} → Result A Outcome → (A → Result B Outcome) → Result B Outcome
-(Err outcome) >>= rest = Err outcome
-(Ok x) >>= rest = rest x
-
--- the bytes of a command's files: the first that isn't there, or is too large, decides
-abbrev pub texts_of : NamedFiles → List (Role × List ℕ) → Result (List (Role × List ℕ)) Outcome
-texts_of known [] = Ok []
-texts_of known (file ∷ rest) = do
-  bytes ← bytes_of file.0 (file_at known file.1)
-  texts ← texts_of known rest
-  Ok ((file.0, bytes) ∷ texts)
-
-abbrev pub is_same : Role → Role → Bool
-is_same role.Metamodel role.Metamodel = true
-is_same role.Model role.Model = true
-is_same role.Queries role.Queries = true
-is_same role other = false
-
--- the bytes of the file that is this to its command
-abbrev pub text_of : Role → List (Role × List ℕ) → List ℕ
-text_of role [] = []
-text_of role (text ∷ rest) = if is_same role text.0 then text.1 else text_of role rest
 
 -- ---- documents
 

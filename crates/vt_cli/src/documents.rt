@@ -1,6 +1,5 @@
 // From the bytes of a metamodel and of a model to the model.
 ghost use Rattle.std.specs.Prelude.{◌≡◌, IfOk, IfErr, Ok, Err};
-ghost use Rattle.vt_model.specs.Sound.{IsSound};
 ghost use Rattle.vt_cli.specs.Result.{metamodel_of, model_of, loaded_from};
 ghost use Rattle.vt_cli.specs.Inside.Prepared.{AreSmall, IsOfFiles};
 ghost use Rattle.vt_cli.specs.Inside.Seen.{loaded_of};
@@ -17,7 +16,6 @@ use vt_store::Store;
 // The metamodel, or the outcome of its first fault.
 fn metamodel(alloc: Global, bytes: &[u8]) -> Result<Result<Metamodel, Outcome>, NoMemory>
     ensures due { IfOk result (λ judged. judged ≡ metamodel_of bytes.now) }
-    ensures sound { IfOk result (λ judged. IfOk judged (λ meta. IsSound meta)) }
     ensures suits { IfOk result (λ judged. IfErr judged (λ outcome. IsOfFiles outcome.ending)) }
 {
     match read_meta(alloc, bytes) {
@@ -28,7 +26,6 @@ fn metamodel(alloc: Global, bytes: &[u8]) -> Result<Result<Metamodel, Outcome>, 
 
 // The model of a metamodel, or the outcome of its first fault.
 fn model(alloc: Global, meta: &Metamodel, bytes: &[u8]) -> Result<Result<Store, Outcome>, NoMemory>
-    requires { IsSound meta.now }
     ensures of { IfOk result (λ judged. IfOk judged (λ store. store.meta ≡ meta.now)) }
     ensures accepted { IfOk result (λ judged. IfOk judged (λ store.
         model_of meta.now bytes.now ≡ Ok store.model)) }
@@ -36,6 +33,7 @@ fn model(alloc: Global, meta: &Metamodel, bytes: &[u8]) -> Result<Result<Store, 
         model_of meta.now bytes.now ≡ Err outcome)) }
     ensures suits { IfOk result (λ judged. IfErr judged (λ outcome. IsOfFiles outcome.ending)) }
 {
+    meta.is_sound();
     match read_store(alloc, meta, bytes) {
         Ok(store) => Ok(Ok(store)),
         Err(fault) => Ok(Err(refusals::model(alloc, fault)?)),

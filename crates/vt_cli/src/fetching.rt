@@ -1,6 +1,6 @@
 // Fetching the files of a command. All are fetched before any is judged.
 ghost use Rattle.std.specs.Prelude.{◌≡◌, ◌⊎◌, ◌≤◌, IfOk, IfErr, length, zip, [], ◌∷◌};
-ghost use Rattle.vt_cli.specs.Result.{file_limit, is_same, text_of};
+ghost use Rattle.vt_cli.specs.Texts.{file_limit, is_same, text_of};
 ghost use Rattle.vt_cli.specs.Inside.Prepared.{AreFetched, AreStopped, AreUnread, AreSmall, FailsFile};
 
 use crate::ending::{Ending, Outcome, Role};

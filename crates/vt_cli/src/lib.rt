@@ -1,6 +1,6 @@
 //! The commands: words and files in, text and an ending out.
 //!
-//! It stands on all crates below. Read `specs/Command.antt`, `specs/Lines.antt`,
+//! It stands on all crates below. Read `specs/Command.antt`, `specs/Lines.antt`, `specs/Texts.antt`,
 //! `specs/Refusals.antt`, `specs/Lists.antt`, `specs/Result.antt` and `specs/Answer.antt`; then
 //! `viatra`, below.
 #![tactic(auto)]

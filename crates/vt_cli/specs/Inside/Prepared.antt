@@ -7,7 +7,8 @@ use Rattle.vt_outside.specs.Shelf.{NamedFiles}
 use Rattle.vt_outside.specs.Sink.{AppendsPrefix}
 use Rattle.vt_cli.specs.Command.{Command, files_of}
 use Rattle.vt_cli.specs.Lines.{unreadable_line}
-use Rattle.vt_cli.specs.Result.{file_limit, texts_of, IsDueToCommand}
+use Rattle.vt_cli.specs.Texts.{file_limit, texts_of}
+use Rattle.vt_cli.specs.Result.{IsDueToCommand}
 use Rattle.vt_cli.specs.Answer.{FailsToRead, AreThere}
 use Rattle.vt_cli.specs.declared.ending.Role.{Role}
 use Rattle.vt_cli.specs.declared.ending.Ending.{Ending}

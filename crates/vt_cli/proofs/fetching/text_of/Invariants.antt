@@ -1,5 +1,5 @@
 use Rattle.std.proofs.Common.{◌≡◌, drop}
-use Rattle.vt_cli.specs.Result.{text_of}
+use Rattle.vt_cli.specs.Texts.{text_of}
 use Rattle.vt_cli.specs.Inside.Prepared.{AreSmall}
 use Rattle.vt_cli.proofs.fetching.text_of.Given as goal
 
