@@ -188,11 +188,13 @@ const METAMODELS: &str = r#"1;NotJson;0;{
 8;FeatureClash;3;{"format":1,"classes":[{"name":"A"},{"name":"B","supers":["A"],"attributes":[{"name":"m","kind":"int"}]},{"name":"C","supers":["A"],"attributes":[{"name":"m","kind":"int"}]},{"name":"D","supers":["B","C"]}]}"#;
 
 // An earlier fault of a later kind doesn't count. Enums are counted before classes.
-const FIRST_KINDS: &str = r#"3;DuplicateName;2;{"format":1,"enums":[{"name":"E","literals":["L"]}],"classes":[{"name":"A","supers":["Z"]},{"name":"A"},{"name":"A"}]}
+const FIRST_KINDS: &str =
+    r#"3;DuplicateName;2;{"format":1,"enums":[{"name":"E","literals":["L"]}],"classes":[{"name":"A","supers":["Z"]},{"name":"A"},{"name":"A"}]}
 3;DuplicateName;1;{"format":1,"enums":[{"name":"E","literals":["L"]},{"name":"F","literals":["M","M"]}],"classes":[{"name":"int"}]}"#;
 
 // Behind changes that are made, and before one that is refused too.
-const AMONG_OTHERS: &str = r#"103;UnknownClass;1;{"name":"p","class":"Node"},{"name":"q","class":"Zug"},{"name":"r","class":"Part"}
+const AMONG_OTHERS: &str =
+    r#"103;UnknownClass;1;{"name":"p","class":"Node"},{"name":"q","class":"Zug"},{"name":"r","class":"Part"}
 104;AbstractClass;1;{"name":"p","class":"Node"},{"name":"q","class":"Part"},{"name":"p","class":"Node"}
 105;NameTaken;2;{"name":"p","class":"Node"},{"name":"q","class":"Node"},{"name":"p","class":"Track"},{"name":"_1","class":"Node"}
 106;ReservedName;1;{"name":"_0","class":"Node"},{"name":"_2","class":"Node"},{"name":"r","class":"Zug"}
@@ -204,14 +206,16 @@ const AMONG_OTHERS: &str = r#"103;UnknownClass;1;{"name":"p","class":"Node"},{"n
 111;ContainmentCycle;5;{"name":"p","class":"Node","links":{"parts":["q"]}},{"name":"q","class":"Node","links":{"to":["s"],"parts":["r","p"]}},{"name":"r","class":"Node"}"#;
 
 // The keys rise within an object, and attributes come before all links.
-const OUT_OF_ORDER: &str = r#"108;WrongKind;3;{"name":"p","class":"Node","links":{"to":["r"]},"attributes":{"w":1}},{"name":"q","class":"Node","attributes":{"w":""}}
+const OUT_OF_ORDER: &str =
+    r#"108;WrongKind;3;{"name":"p","class":"Node","links":{"to":["r"]},"attributes":{"w":1}},{"name":"q","class":"Node","attributes":{"w":""}}
 107;UnknownFeature;1;{"name":"p","class":"Node","links":{"to":["r"],"from":["p"]}}"#;
 
 const IN_ITSELF: &str =
     r#"111;ContainmentCycle;1;{"name":"p","class":"Node","links":{"parts":["p"]}}"#;
 
 // Of a change's refusals the first is told.
-const TWO_REFUSALS: &str = r#"103;UnknownClass;1;{"name":"p","class":"Node"},{"name":"p","class":"Zug"}
+const TWO_REFUSALS: &str =
+    r#"103;UnknownClass;1;{"name":"p","class":"Node"},{"name":"p","class":"Zug"}
 104;AbstractClass;1;{"name":"p","class":"Node"},{"name":"p","class":"Part"}
 105;NameTaken;1;{"name":"_0","class":"Node"},{"name":"_0","class":"Node"}
 101;UnknownObject;1;{"name":"p","class":"Node","links":{"zug":["r"]}}

@@ -104,37 +104,55 @@ fn numbers_of(alloc: Global, text: &str) -> Result<List<u64>, Fail> {
     Ok(numbers)
 }
 
+fn table_files(alloc: Global) -> Result<List<(Text, List<u8>)>, NoMemory> {
+    let mut files = List::new(alloc);
+    for (name, text) in FILES {
+        add_file(&mut files, alloc, name, text.as_bytes())?;
+    }
+    Ok(files)
+}
+
+fn words_of(alloc: Global, text: &str) -> Result<List<Text>, NoMemory> {
+    let mut words = List::new(alloc);
+    if text != "" {
+        for word in text.split(' ') {
+            words.add(Text::new(alloc, word)?)?;
+        }
+    }
+    Ok(words)
+}
+
+// The exit status of a run, and what it writes.
+fn answer_of(alloc: Global, run: &str) -> Result<(u8, String), Fail> {
+    let mut parts = run.split(';');
+    let words = words_of(alloc, parts.next().unwrap_or(""))?;
+    let fetches = numbers_of(alloc, parts.next().unwrap_or(""))?;
+    let puts = numbers_of(alloc, parts.next().unwrap_or(""))?;
+    let shelf = MemShelf::new(table_files(alloc)?, fetches);
+    let (ending, text) = answer(alloc, &words, shelf, puts)?;
+    Ok((ending.status(), text))
+}
+
+// What is wanted of a run.
+fn wanted_of(alloc: Global, run: &str) -> Result<(u8, String), Fail> {
+    let mut parts = run.split(';').skip(3);
+    let status = parts.next().unwrap_or("").parse::<u8>()?;
+    let text = match parts.next().unwrap_or("") {
+        "" => String::new(alloc),
+        "dump" => String::from_str(alloc, TWO_NODES_DUMP)?,
+        "lists" => String::from_str(alloc, LISTS)?,
+        told => format!(in alloc; "fault: {told}\n")?,
+    };
+    Ok((status, text))
+}
+
 #[test]
 fn words_files_and_devices_decide(rt: HostRuntime) -> Result<(), Fail> {
-    let alloc = rt.alloc();
     for run in RUNS.lines() {
-        let mut parts = run.split(';');
-        let words = parts.next().unwrap_or("");
-        let fetches = numbers_of(alloc, parts.next().unwrap_or(""))?;
-        let puts = numbers_of(alloc, parts.next().unwrap_or(""))?;
-        let status = parts.next().unwrap_or("").parse::<u8>()?;
-        let told = parts.next().unwrap_or("");
-
-        let mut files = List::new(alloc);
-        for (name, text) in FILES {
-            add_file(&mut files, alloc, name, text.as_bytes())?;
-        }
-        let mut asked = List::new(alloc);
-        if words != "" {
-            for word in words.split(' ') {
-                asked.add(Text::new(alloc, word)?)?;
-            }
-        }
-        let (ending, text) = answer(alloc, &asked, MemShelf::new(files, fetches), puts)?;
-        assert_eq!(rt; ending.status(), status, "{run}");
-        let line = format!(in alloc; "fault: {told}\n")?;
-        let wanted = match told {
-            "" => "",
-            "dump" => TWO_NODES_DUMP,
-            "lists" => LISTS,
-            _ => line.as_str(),
-        };
-        assert_eq!(rt; text.as_str(), wanted, "{run}");
+        let (status, text) = answer_of(rt.alloc(), run)?;
+        let (wanted_status, wanted_text) = wanted_of(rt.alloc(), run)?;
+        assert_eq!(rt; status, wanted_status, "{run}");
+        assert_eq!(rt; text.as_str(), wanted_text.as_str(), "{run}");
     }
     Ok(())
 }
