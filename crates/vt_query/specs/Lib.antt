@@ -3,5 +3,6 @@ pub mod Terms
 pub mod Holding
 pub mod Tables
 pub mod Calls
+pub mod Numbers
 pub mod WellFormed
 pub mod Narrow

@@ -1,20 +1,20 @@
 -- What a file makes is narrow and in order.
 use Rattle.std.proofs.Common.{ℕ, ◌≡◌, ◌≢◌, ◌≤◌, ◌&&◌, true, List, [], ◌∷◌, ◌++◌, length, map, Some, option_map, refl, sym, ◌∙◌, ap, subst, arith, nat_le}
-use Rattle.std.specs.Prelude.{flat_map, option_and_then}
+use Rattle.std.specs.Prelude.{flat_map, option_and_then, IfSome, Option, None}
 use Rattle.std.proofs.lemmas.List.{length-map}
 use Rattle.std.proofs.lemmas.List.Elements.{All-from_recursion, All-append, All-weaker}
-use Rattle.vt_base.specs.Base.{Counts}
 use Rattle.vt_facts.specs.Parts.{◌>>=◌}
 use Rattle.vt_model.specs.Base.{counts_of}
 use Rattle.vt_model.specs.Metamodel.{Metamodel}
 use Rattle.vt_facts.specs.Names.{is_distinct}
 use Rattle.vt_query.specs.Narrow.{IsVariable, IsNarrowConstraint, IsNarrowBody, IsNarrowPattern, IsNarrow}
+use Rattle.vt_query.specs.Numbers.{IsType}
 use Rattle.vt_query.specs.WellFormed.{IsTerm, IsFormed, IsFormedBody, IsFormedPattern, IsWellFormed}
 use Rattle.vt_query.specs.declared.program.Program.{Program}
 use Rattle.vt_query.specs.declared.program.Pattern.{Pattern}
 use Rattle.vt_query.specs.declared.program.Body.{Body}
 use Rattle.vt_query.specs.declared.program.Param.{Param}
-use Rattle.vt_query.specs.declared.program.Ty.TheVariants.{Class}
+use Rattle.vt_query.specs.declared.program.Ty.{Ty}
 use Rattle.vt_query.specs.declared.program.Ty.TheVariants as ty
 use Rattle.vt_query.specs.declared.program.Term.{Term}
 use Rattle.vt_query.specs.declared.program.Term.TheVariants.{Var, Const}
@@ -106,33 +106,41 @@ pattern_narrow meta p q e =
 
 -- ---- a narrow pattern is in order
 
-term_formed : (vars : ℕ) (t : Term) → IsVariable vars t → IsTerm vars t
-term_formed vars (Var i) h = h
-term_formed vars (Const v) h = absurd h
+term_formed : (meta : Metamodel) (vars : ℕ) (t : Term) → IsVariable vars t → IsTerm meta vars t
+term_formed meta vars (Var i) h = h
+term_formed meta vars (Const v) h = absurd h
 
-constraint_formed : (program : Program) (counts : Counts) (vars : ℕ) (c : Constraint) → IsNarrowConstraint counts vars c → IsFormed program vars c
-constraint_formed program counts vars (Is (ty.Class c) t) h = term_formed vars t h.1
-constraint_formed program counts vars (Attr c a from to) h = (term_formed vars from h.2, term_formed vars to h.3)
-constraint_formed program counts vars (Ref c r from to) h = (term_formed vars from h.2, term_formed vars to h.3)
-constraint_formed program counts vars c h = absurd h
+constraint_formed : (meta : Metamodel) (program : Program) (vars : ℕ) (c : Constraint) → IsNarrowConstraint (counts_of meta) vars c → IsFormed meta program vars c
+constraint_formed meta program vars (Is (ty.Class c) t) h = (h.0, term_formed meta vars t h.1)
+constraint_formed meta program vars (Attr c a from to) h = (h.0, h.1, term_formed meta vars from h.2, term_formed meta vars to h.3)
+constraint_formed meta program vars (Ref c r from to) h = (h.0, h.1, term_formed meta vars from h.2, term_formed meta vars to h.3)
+constraint_formed meta program vars c h = absurd h
 
-body_formed : (program : Program) (meta : Metamodel) (p : PatternTree) (q : Pattern) (w : Parts meta p q) → IsFormedBody program (length w.params) (body_of p w.params w.cs)
+body_formed : (program : Program) (meta : Metamodel) (p : PatternTree) (q : Pattern) (w : Parts meta p q) → IsFormedBody meta program (length w.params) (body_of p w.params w.cs)
 body_formed program meta p q w = record {
   room = params_within meta p w.params w.all_params;
-  constraints = All-weaker (IsNarrowConstraint (counts_of meta) (vars_of p)) (IsFormed program (vars_of p)) (constraint_formed program (counts_of meta) (vars_of p))
+  constraints = All-weaker (IsNarrowConstraint (counts_of meta) (vars_of p)) (IsFormed meta program (vars_of p)) (constraint_formed meta program (vars_of p))
       (declared_from 0 w.params ++ w.cs) (body_narrow meta p q w).constraints;
 }
+
+type_there : (meta : Metamodel) (vars : ℕ) (t : Option Ty) → IsKnown meta vars t → IfSome t (IsType meta)
+type_there meta vars None h = tt
+type_there meta vars (Some (ty.Class c)) h = h
+type_there meta vars (Some (ty.Kind k)) h = absurd h
 
 not_empty : {A : Type 0} (x : A) (xs : List A) → x ∷ xs ≢ []
 not_empty x xs = λ e. cc
 
-pattern_formed : (program : Program) (meta : Metamodel) (p : PatternTree) (q : Pattern) → narrow_pattern meta p ≡ Some q → IsFormedPattern program q
+pattern_formed : (program : Program) (meta : Metamodel) (p : PatternTree) (q : Pattern) → narrow_pattern meta p ≡ Some q → IsFormedPattern meta program q
 pattern_formed program meta p q e =
     let w = parts_of meta p q e in
-    subst (IsFormedPattern program) w.made (record {
+    let is_typed : Param → Type 0 = λ r. IfSome r.ty (IsType meta) in
+    subst (IsFormedPattern meta program) w.made (record {
       params = ap is_distinct (names_kept meta p.params w.params w.all_params) ∙ w.distinct;
+      types = All-from_recursion is_typed w.params
+          (made_each (param_of meta) is_typed (λ s r known. type_there meta (vars_of p) r.ty (param_known meta (vars_of p) s r known)) p.params w.params w.all_params);
       some = not_empty _ _;
-      bodies = All-from_recursion (IsFormedBody program (length w.params)) (body_of p w.params w.cs ∷ []) (body_formed program meta p q w, tt);
+      bodies = All-from_recursion (IsFormedBody meta program (length w.params)) (body_of p w.params w.cs ∷ []) (body_formed program meta p q w, tt);
     })
 
 pattern_keeps : (meta : Metamodel) (p : PatternTree) (q : Pattern) → narrow_pattern meta p ≡ Some q → q.name ≡ p.name
@@ -154,11 +162,11 @@ made_narrow meta file program e =
     All-from_recursion (IsNarrowPattern (counts_of meta)) program.patterns
     (made_each (narrow_pattern meta) (IsNarrowPattern (counts_of meta)) (pattern_narrow meta) file.patterns program.patterns (program_parts meta file program e).0)
 
-pub made_well_formed : (meta : Metamodel) (file : FileTree) (program : Program) → narrow_program meta file ≡ Some program → IsWellFormed program
+pub made_well_formed : (meta : Metamodel) (file : FileTree) (program : Program) → narrow_program meta file ≡ Some program → IsWellFormed meta program
 made_well_formed meta file program e =
     let w = program_parts meta file program e in
     record {
       names = ap is_distinct (made_keeps (narrow_pattern meta) (λ q. q.name) (λ p. p.name) (pattern_keeps meta) file.patterns program.patterns w.0) ∙ w.1;
-      patterns = All-from_recursion (IsFormedPattern program) program.patterns
-          (made_each (narrow_pattern meta) (IsFormedPattern program) (pattern_formed program meta) file.patterns program.patterns w.0);
+      patterns = All-from_recursion (IsFormedPattern meta program) program.patterns
+          (made_each (narrow_pattern meta) (IsFormedPattern meta program) (pattern_formed program meta) file.patterns program.patterns w.0);
     }

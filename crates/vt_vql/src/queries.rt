@@ -68,8 +68,9 @@ pub fn read_queries(alloc: Global, meta: &Metamodel, bytes: &[u8]) -> Result<Pro
     // The fault is the file's first. Want of memory may stand for any answer.
     ensures refused { IfErr result (λ fault. IsFaultOf meta.now bytes.now fault) }
 
-    // Names differ, numbers are there, and the parameters are among the variables.
-    ensures well_formed { IfOk result (λ program. IsWellFormed program) }
+    // Names differ, numbers of variables, classes and features are there, and the parameters are
+    // among the variables.
+    ensures well_formed { IfOk result (λ program. IsWellFormed meta.now program) }
 
     // Each pattern has one body, and each of its variables stands in a constraint.
     ensures narrow { IfOk result (λ program. IsNarrow (counts_of meta.now) program) }

@@ -1,4 +1,4 @@
-//! Query files with the program or the fault that each must give.
+//! Query files with the program or the fault that each must give. In a table each line is a case.
 mod limits;
 mod narrow;
 mod refused;
@@ -19,12 +19,6 @@ const RAIL: &str = r#"{"format":1,"uri":"http://rail","classes":[
     {"name":"Track","attributes":[{"name":"w","kind":"int"}],
         "references":[{"name":"from","target":"Node","many":true},{"name":"to","target":"Track","many":true}]}]}"#;
 
-const NOT_TEXT: Option<QueryFault> = Some(QueryFault::NotText { place: 0 });
-
-const NOT_BUILT: Option<QueryFault> = Some(QueryFault::NotBuilt { place: 0 });
-
-const READ: Option<QueryFault> = None;
-
 fn rail(alloc: Global) -> Result<Metamodel, Fail> {
     Ok(read_meta(alloc, RAIL.as_bytes())?)
 }
@@ -37,8 +31,15 @@ fn answer(alloc: Global, bytes: &[u8]) -> Result<Result<Program, QueryFault>, Fa
     Ok(read_queries(alloc, &meta, bytes))
 }
 
-fn fault_of(alloc: Global, bytes: &[u8]) -> Result<Option<QueryFault>, Fail> {
-    Ok(answer(alloc, bytes)?.err())
+// The program of a file, a line for each pattern, or its fault.
+fn outcome(alloc: Global, bytes: &[u8]) -> Result<String, Fail> {
+    match answer(alloc, bytes)? {
+        Ok(program) => program_text(alloc, &program),
+        Err(QueryFault::NotText { place }) => Ok(format!(in alloc; "NotText {place}")?),
+        Err(QueryFault::BadToken { line }) => Ok(format!(in alloc; "BadToken {line}")?),
+        Err(QueryFault::NotBuilt { place }) => Ok(format!(in alloc; "NotBuilt {place}")?),
+        Err(QueryFault::NoMemory) => Ok(String::from_str(alloc, "no memory")?),
+    }
 }
 
 // ---- a program as a text
@@ -125,9 +126,7 @@ fn pattern_text(alloc: Global, pattern: &Pattern) -> Result<String, Fail> {
     Ok(all)
 }
 
-// A line for each pattern.
-fn program_text(alloc: Global, bytes: &[u8]) -> Result<String, Fail> {
-    let program = answer(alloc, bytes)??;
+fn program_text(alloc: Global, program: &Program) -> Result<String, Fail> {
     let mut all = String::new(alloc);
     for pattern in program.patterns.as_slice() {
         all.push_str(pattern_text(alloc, pattern)?.as_str())?;
@@ -137,27 +136,26 @@ fn program_text(alloc: Global, bytes: &[u8]) -> Result<String, Fail> {
 
 // ---- tables
 
-// Each file makes the program beside it.
-fn make_all(rt: &impl Abort, alloc: Global, cases: &[(&str, &str)]) -> Result<(), Fail> {
-    for (text, program) in cases {
-        assert_eq!(rt;
-            program_text(alloc, text.as_bytes())?.as_str(),
-            *program,
-            "{text}"
-        );
+// A line of a table, in which a picture of a control character stands for that character.
+fn unpictured(alloc: Global, line: &str) -> Result<String, Fail> {
+    let mut text = String::new(alloc);
+    for c in line.chars() {
+        text.push(match c {
+            '␉' => '\t',
+            '␊' => '\n',
+            '␍' => '\r',
+            c => c,
+        })?;
     }
-    Ok(())
+    Ok(text)
 }
 
-// Each file has this fault.
-fn refuse_all(
-    rt: &impl Abort,
-    alloc: Global,
-    fault: Option<QueryFault>,
-    cases: &[&str],
-) -> Result<(), Fail> {
-    for text in cases {
-        assert_eq!(rt; fault_of(alloc, text.as_bytes())?, fault, "{text}");
+// Each line of a table has a file, and its program or its fault.
+fn answer_all(rt: &impl Abort, alloc: Global, table: &str) -> Result<(), Fail> {
+    for line in table.lines() {
+        let case = unpictured(alloc, line)?;
+        let (text, answer) = case.as_str().split_once('→').ok_or("no answer")?;
+        assert_eq!(rt; outcome(alloc, text.as_bytes())?.as_str(), answer, "{line}");
     }
     Ok(())
 }

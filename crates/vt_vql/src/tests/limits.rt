@@ -1,5 +1,6 @@
 //! The greatest numbers of parameters, constraints, variables and patterns.
-use super::{NOT_BUILT, READ, fault_of};
+use super::answer;
+use crate::QueryFault;
 use std::alloc::Global;
 use std::test::Fail;
 
@@ -26,6 +27,15 @@ fn patterns(alloc: Global, count: u32) -> Result<String, Fail> {
     Ok(text)
 }
 
+// The fault of a file, or none where it is read.
+fn fault_of(alloc: Global, text: &str) -> Result<Option<QueryFault>, Fail> {
+    Ok(answer(alloc, text.as_bytes())?.err())
+}
+
+const READ: Option<QueryFault> = None;
+
+const NOT_BUILT: Option<QueryFault> = Some(QueryFault::NotBuilt { place: 0 });
+
 #[test]
 fn the_limits_hold_and_one_more_is_refused(rt: HostRuntime) -> Result<(), Fail> {
     for (params, constraint, times, fault) in [
@@ -44,19 +54,14 @@ fn the_limits_hold_and_one_more_is_refused(rt: HostRuntime) -> Result<(), Fail> 
     ] {
         let text = pattern_with(rt.alloc(), params, constraint, times)?;
         assert_eq!(rt;
-            fault_of(rt.alloc(), text.as_bytes())?,
+            fault_of(rt.alloc(), text.as_str())?,
             fault,
             "{params} {times}"
         );
     }
-    Ok(())
-}
-
-#[test]
-fn a_file_has_at_most_512_patterns(rt: HostRuntime) -> Result<(), Fail> {
     let most = patterns(rt.alloc(), 512)?;
-    assert_eq!(rt; fault_of(rt.alloc(), most.as_bytes())?, READ);
+    assert_eq!(rt; fault_of(rt.alloc(), most.as_str())?, READ);
     let more = patterns(rt.alloc(), 513)?;
-    assert_eq!(rt; fault_of(rt.alloc(), more.as_bytes())?, NOT_BUILT);
+    assert_eq!(rt; fault_of(rt.alloc(), more.as_str())?, NOT_BUILT);
     Ok(())
 }
