@@ -16,7 +16,8 @@ use vt_store::Store;
 // The objects of some rows, each with the object or the whole number that follows it.
 fn numbers_in(alloc: Global, rows: &Rows) -> Result<Vec<(u32, Option<i64>)>, NoMemory> {
     let mut numbers = Vec::new(alloc);
-    for row in rows.as_slice() {
+    let mut walk = rows.walk();
+    while let Some(row) = walk.next() {
         match row.as_slice() {
             [Value::Obj(o), Value::Obj(p)] => numbers.push((o.0, Some(i64::from(p.0))))?,
             [Value::Obj(o), Value::Int(n)] => numbers.push((o.0, Some(*n)))?,
