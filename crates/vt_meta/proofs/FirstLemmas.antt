@@ -1,6 +1,6 @@
 -- The first place at which a test holds, step by step.
 use Rattle.std.proofs.Common.{◌≡◌, ℕ, zero, suc, ◌+◌, List, [], ◌∷◌, length, get_or, drop, refl, sym, ap, subst, ◌∙◌, cond, Bool, true, false, arith}
-use Rattle.std.specs.Prelude.{◌<◌, ◌≤◌, slice_get, Option, Some, None, option_map}
+use Rattle.std.specs.Prelude.{◌<◌, ◌≤◌, slice_get, Some, None, option_map}
 use Rattle.std.proofs.lemmas.List.{at_drop_more, at_drop_all}
 use Rattle.std.proofs.lemmas.Option.{same_Some}
 use Rattle.vt_meta.specs.Faults.{first_place, at_class}

@@ -1,21 +1,15 @@
 -- The names of a document by their places.
-use Rattle.std.proofs.Common.{◌≡◌, ℕ, zero, suc, map, ◌+◌, List, [], ◌∷◌, ◌++◌, length, refl, sym, ap, subst, ◌∙◌, cond, Bool, true, false, arith, take, get_or}
-use Rattle.std.specs.Prelude.{◌<◌, nat_eq, position, Option, Some, None, is_some, option_map}
-use Rattle.std.specs.Option.{option_or}
-use Rattle.std.specs.Str.{bytes_eq}
-use Rattle.std.specs.Map.{update}
-use Rattle.std.specs.Cmp.Lexicographic.{pointwise, nat_list_eq_equiv}
-use Rattle.std.proofs.lemmas.Bool.{true≢false}
-use Rattle.std.proofs.lemmas.List.{take_more, length-take-le}
-use Rattle.std.proofs.lemmas.Slice.Eq.{bytes_eq-Decides}
+use Rattle.std.proofs.Common.{◌≡◌, ℕ, zero, suc, map, ◌+◌, List, [], ◌∷◌, ◌++◌, length, refl, sym, ap, subst, ◌∙◌, take, get_or}
+use Rattle.std.specs.Prelude.{◌<◌}
+use Rattle.std.proofs.lemmas.List.{take_more}
 use Rattle.vt_facts.specs.Names.{is_name}
 use Rattle.vt_meta.specs.Inside.Places.{FindsEnum, FindsClass, FindEachReference, FindReferences}
-use Rattle.vt_model.specs.Places.{place_in, FindsIn, AddsPlace}
+use Rattle.vt_model.specs.Places.{FindsIn}
 use Rattle.vt_meta.specs.declared.document.EnumDocument.{EnumDocument}
 use Rattle.vt_meta.specs.declared.document.ClassDocument.{ClassDocument}
 use Rattle.vt_meta.specs.declared.document.ReferenceDocument.{ReferenceDocument}
 use Rattle.vt_model.specs.declared.places.Places.{Places}
-use Rattle.vt_facts.proofs.PositionLemmas.{position-cons, position-map}
+use Rattle.vt_facts.proofs.PositionLemmas.{position-map}
 
 -- ---- the names of a document
 

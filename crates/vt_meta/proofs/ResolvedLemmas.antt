@@ -1,7 +1,7 @@
 -- What the names of a document stand for, found by their places.
-use Rattle.std.proofs.Common.{◌≡◌, ℕ, List, length, take, get_or, refl, sym, ap, ◌∙◌}
+use Rattle.std.proofs.Common.{◌≡◌, ℕ, List, refl, ap, ◌∙◌}
 use Rattle.std.specs.Prelude.{find, position, slice_get, Option, Some, None, option_and_then}
-use Rattle.vt_meta.specs.Declarations.{class_place, class_at, declared_there}
+use Rattle.vt_meta.specs.Declarations.{class_place, declared_there}
 use Rattle.vt_facts.specs.Names.{is_name}
 use Rattle.vt_meta.specs.Inside.Places.{declared_at}
 use Rattle.vt_meta.specs.declared.document.ClassDocument.{ClassDocument}

@@ -1,13 +1,13 @@
 -- The supertypes of a document's classes, by places and by numbers.
-use Rattle.std.proofs.Common.{◌≡◌, ℕ, ◌+◌, List, [], ◌∷◌, ◌++◌, length, map, drop, get_or, refl, sym, ap, subst, ◌∙◌, Bool, true, arith}
-use Rattle.std.specs.Prelude.{◌<◌, ◌||◌, ◌↔◌, All, position, Option, Some, None, unwrap_or}
+use Rattle.std.proofs.Common.{◌≡◌, ℕ, List, length, map, get_or, refl, sym, ap, subst, ◌∙◌, true, arith}
+use Rattle.std.specs.Prelude.{◌<◌, ◌↔◌, All, Option, Some, None, unwrap_or}
 use Rattle.std.specs.List.{list_any}
-use Rattle.std.proofs.lemmas.List.{append_assoc, at_drop_more, length-map}
+use Rattle.std.proofs.lemmas.List.{length-map}
 use Rattle.std.proofs.lemmas.List.Elements.{All-map}
 use Rattle.std.proofs.lemmas.List.Folds.{Any-from_list_any, list_any_at}
 use Rattle.vt_base.specs.declared.numbers.ClassId.{ClassId}
 use Rattle.vt_model.specs.Metamodel.{supers_of, is_within}
-use Rattle.vt_meta.specs.Declarations.{class_place, class_number, supers_in}
+use Rattle.vt_meta.specs.Declarations.{class_place, supers_in}
 use Rattle.vt_facts.specs.Names.{is_name}
 use Rattle.vt_meta.specs.Faults.{is_above_itself, IsOnCycle}
 use Rattle.vt_meta.specs.Inside.Above.{supers_places}

@@ -1,5 +1,5 @@
 -- The first fault of a metamodel document that has its shape.
-use Rattle.std.specs.Prelude.{ℕ, ◌+◌, ◌&&◌, ◌||◌, List, [], ◌∷◌, ◌++◌, length, take, map, find, sum_by, Contains, Bool, true, false, not, nat_lt, is_none, is_some, if◌then◌else◌, Option, Some, None, option_map}
+use Rattle.std.specs.Prelude.{ℕ, ◌+◌, ◌&&◌, ◌||◌, List, [], ◌∷◌, length, take, find, sum_by, Contains, Bool, false, not, nat_lt, is_none, is_some, if◌then◌else◌, Option, Some, None, option_map}
 use Rattle.std.specs.List.{list_any}
 use Rattle.std.specs.Option.{option_map_or}
 use Rattle.vt_base.specs.declared.numbers.ClassId.{ClassId}

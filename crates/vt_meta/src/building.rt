@@ -1,9 +1,8 @@
 // The metamodel that a document makes.
-ghost use Rattle.std.specs.Prelude.{◌≡◌, ◌++◌, ◌≤◌, ◌<◌, ◌&&◌, ◌==◌, IfOk, OnOk, All, None, map, length, position, unwrap_or, option_map, option_and_then};
+ghost use Rattle.std.specs.Prelude.{◌≡◌, ◌++◌, ◌≤◌, ◌<◌, ◌&&◌, ◌==◌, IfOk, OnOk, All, None, map, length, position, unwrap_or, option_and_then};
 ghost use Rattle.vt_base.specs.declared.value.Kind.TheVariants.{Int};
 ghost use Rattle.vt_meta.specs.Declarations.{kind_named, class_number};
-ghost use Rattle.vt_facts.specs.Names.{is_name};
-ghost use Rattle.vt_meta.specs.Built.{Declared, declared_by, attributes_from, references_from, reference_number, enum_info, class_info, attr_info, ref_info, metamodel_of};
+ghost use Rattle.vt_meta.specs.Built.{declared_by, attributes_from, references_from, reference_number, enum_info, class_info, attr_info, ref_info, metamodel_of};
 ghost use Rattle.vt_meta.specs.Faults.{too_great};
 ghost use Rattle.vt_meta.specs.Inside.Above.{supers_places};
 ghost use Rattle.vt_model.specs.Above.{class_id, ids};

@@ -1,5 +1,5 @@
 // Classes with two different features of one name.
-ghost use Rattle.std.specs.Prelude.{◌≡◌, ◌++◌, ◌<◌, ◌∷◌, [], IfOk, OnOk, length, not};
+ghost use Rattle.std.specs.Prelude.{◌≡◌, ◌++◌, ◌<◌, IfOk, OnOk, length, not};
 ghost use Rattle.vt_facts.specs.Names.{is_distinct};
 ghost use Rattle.vt_meta.specs.Faults.{has_clash, at_class};
 ghost use Rattle.vt_meta.specs.Inside.Above.{supers_places};

@@ -1,6 +1,5 @@
 // More classes, enums, literals or features than there may be.
 ghost use Rattle.std.specs.Prelude.{◌≡◌, IfOk, length, sum_by, nat_lt, find, option_map};
-ghost use Rattle.std.specs.Option.{option_copied};
 ghost use Rattle.vt_meta.specs.Faults.{above, feature_count, too_great};
 
 use crate::document::{ClassDocument, EnumDocument, MetamodelDocument};

@@ -3,7 +3,6 @@ ghost use Rattle.std.specs.Prelude.{◌≡◌, ◌||◌, false};
 ghost use Rattle.std.specs.List.{list_any};
 ghost use Rattle.std.specs.Option.{option_map_or};
 ghost use Rattle.vt_meta.specs.Declarations.{names_opposite, opposite_in, answers};
-ghost use Rattle.vt_facts.specs.Names.{is_name};
 ghost use Rattle.vt_meta.specs.Faults.{lacks_opposite, is_bad_containment, at_class};
 
 use crate::document::{ClassDocument, ReferenceDocument};

@@ -1,7 +1,7 @@
 // A document with the places of its names.
 ghost use Rattle.std.specs.Prelude.{◌≡◌, IfOk, map, position, slice_get, is_some, option_and_then};
 ghost use Rattle.std.specs.Option.{option_copied};
-ghost use Rattle.vt_meta.specs.Declarations.{is_kind_name, class_place, kind_named, declared_there, opposite_in};
+ghost use Rattle.vt_meta.specs.Declarations.{class_place, kind_named, declared_there, opposite_in};
 ghost use Rattle.vt_facts.specs.Names.{is_name};
 ghost use Rattle.vt_meta.specs.Inside.Places.{declared_at, FindsEnum, FindsClass, FindEachReference, FindReferences};
 ghost use Rattle.vt_model.specs.Places.{place_in, FindsIn};

@@ -1,5 +1,5 @@
 -- A walk over supertypes comes to the classes above, and to no others.
-use Rattle.std.proofs.Common.{◌≡◌, ℕ, ◌+◌, List, [], ◌∷◌, ◌++◌, length, map, get_or, refl, sym, ap, subst, ◌∙◌, ◌⊎◌, ⊎_elim, inl, inr, Bool, true, false, cond, arith}
+use Rattle.std.proofs.Common.{◌≡◌, ℕ, ◌+◌, List, [], ◌∷◌, ◌++◌, length, map, refl, sym, ap, subst, ◌∙◌, ⊎_elim, Bool, true, false, cond, arith}
 use Rattle.std.specs.Prelude.{◌<◌, ◌≤◌, nat_eq, All, Contains, slice_get, unwrap_or, Option, Some, None, option_map}
 use Rattle.std.specs.List.{list_any, IsDistinct}
 use Rattle.std.specs.Cmp.{nat_eq_equiv}
@@ -16,7 +16,7 @@ use Rattle.indexmap.proofs.CallerLemmas.{Contains-insert_key}
 use Rattle.vt_base.specs.declared.numbers.ClassId.{ClassId}
 use Rattle.vt_model.specs.Metamodel.{supers_of, IsPath, is_within}
 use Rattle.vt_model.specs.Above.{class_id, ids, supers_at, AreThere, is_above_any, IsAbove}
-use Rattle.vt_model.proofs.IsaLemmas.{same_number, is_within_exact}
+use Rattle.vt_model.proofs.IsaLemmas.{is_within_exact}
 
 -- ---- keys that are added where they aren't there
 

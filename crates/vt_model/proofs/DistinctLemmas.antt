@@ -1,8 +1,8 @@
 -- Lists in which no name stands twice.
-use Rattle.std.proofs.Common.{◌≡◌, ℕ, ◌+◌, List, [], ◌∷◌, ◌++◌, length, map, get_or, take, drop, refl, sym, ap, subst, ◌∙◌, cond, Bool, true, false, ⊎_elim, arith}
-use Rattle.std.specs.Prelude.{◌<◌, ◌&&◌, ◌||◌, not, nat_eq, position, Option, Some, None, is_some, is_none, option_map}
+use Rattle.std.proofs.Common.{◌≡◌, ℕ, ◌+◌, List, [], ◌∷◌, ◌++◌, length, get_or, take, drop, refl, sym, ap, ◌∙◌, cond, Bool, true, false, ⊎_elim}
+use Rattle.std.specs.Prelude.{◌<◌, ◌&&◌, ◌||◌, not, position, Option, Some, None, is_some, option_map}
 use Rattle.std.specs.List.{list_any}
-use Rattle.std.specs.Cmp.Lexicographic.{pointwise, nat_list_eq_equiv}
+use Rattle.std.specs.Cmp.Lexicographic.{nat_list_eq_equiv}
 use Rattle.std.proofs.lemmas.Bool.{and_cases, and_left, and_right, or_left, not-false, not_from_true}
 use Rattle.std.proofs.lemmas.List.{take_more, take-append-drop}
 use Rattle.std.proofs.lemmas.List.Folds.{list_any-append}

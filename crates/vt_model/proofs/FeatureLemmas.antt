@@ -1,13 +1,12 @@
 -- The features that are kept for each class are those that the definition finds.
-use Rattle.std.proofs.Common.{◌≡◌, ℕ, zero, suc, ◌+◌, List, [], ◌∷◌, ◌++◌, length, map, get_or, take, refl, sym, ap, subst, ◌∙◌, ◌⊎◌, inl, inr, ⊎_elim, cond, Bool, true, false, arith, length-append}
-use Rattle.std.specs.Prelude.{◌<◌, ◌≤◌, ◌&&◌, ◌||◌, ◌==◌, nat_eq, nat_lt, All, find, position, slice_get, unwrap_or, is_some, Option, Some, None, option_map, option_and_then}
+use Rattle.std.proofs.Common.{◌≡◌, ℕ, ◌+◌, List, [], ◌∷◌, ◌++◌, length, map, get_or, take, refl, sym, ap, subst, ◌∙◌, ⊎_elim, cond, Bool, true, false, arith, length-append}
+use Rattle.std.specs.Prelude.{◌<◌, ◌≤◌, ◌&&◌, ◌==◌, nat_eq, All, find, position, slice_get, unwrap_or, is_some, Option, Some, None, option_map, option_and_then}
 use Rattle.std.specs.List.{list_any}
 use Rattle.std.specs.Option.{option_or}
-use Rattle.std.specs.Cmp.Lexicographic.{pointwise}
-use Rattle.std.proofs.lemmas.Bool.{cases_lt, ne_eqb, lt-ltb, le-ltb, eqb-true, eq-eqb, or_parts, or_from, or_left, or_right, and_left, and_right, false_from_ne_true, true≢false}
+use Rattle.std.proofs.lemmas.Bool.{cases_lt, ne_eqb, lt-ltb, le-ltb, eqb-true, eq-eqb, or_parts, or_from, or_left, or_right, and_left, and_right, true≢false}
 use Rattle.std.proofs.lemmas.List.{take_more, get_or_append_left, get_or_at}
 use Rattle.std.proofs.lemmas.List.Folds.{find-append, list_any-append, list_any_at, list_any_none}
-use Rattle.std.proofs.lemmas.List.Elements.{All-head, All-tail, All-append, All-map, All-weaker, All-cons, All-nil, All-get_or}
+use Rattle.std.proofs.lemmas.List.Elements.{All-head, All-tail, All-weaker}
 use Rattle.std.proofs.lemmas.Option.{slice_get-get_or, slice_get_past, same_Some}
 use Rattle.indexmap.specs.IndexMap.{IndexMap, get}
 use Rattle.vt_base.specs.declared.numbers.ClassId.{ClassId}
@@ -15,7 +14,7 @@ use Rattle.vt_model.specs.Metamodel.{Metamodel, as_metamodel, is_within, isa, fe
 use Rattle.vt_facts.specs.Names.{is_name}
 use Rattle.vt_model.specs.Places.{place_in, FindsIn}
 use Rattle.vt_model.specs.Inside.Tables.{is_marked, MarksAbove}
-use Rattle.vt_model.specs.Inside.FeatureTable.{all_names, name_number, attribute_entries, reference_entries, all_entries, is_entry_of, first_entry, feature_if, kept_at, KeepsFirst, feature_in, FindsFeatures, AreFeatures}
+use Rattle.vt_model.specs.Inside.FeatureTable.{all_names, name_number, attribute_entries, reference_entries, all_entries, is_entry_of, first_entry, feature_if, kept_at, KeepsFirst, FindsFeatures, AreFeatures}
 use Rattle.vt_model.specs.declared.places.Places.{Places}
 use Rattle.vt_model.specs.Sound.{IsSound}
 use Rattle.vt_model.specs.declared.metamodel.Lists.{Lists}
@@ -25,7 +24,7 @@ use Rattle.vt_model.specs.declared.metamodel.Feature.{Feature}
 use Rattle.vt_model.specs.declared.metamodel.Feature.TheVariants.{Attr, Ref}
 use Rattle.vt_model.specs.declared.features.Entry.{Entry}
 use Rattle.vt_model.specs.declared.features.Features.{Features}
-use Rattle.vt_facts.proofs.PositionLemmas.{position-cons, position_agree, IsAt, IsAt-position}
+use Rattle.vt_facts.proofs.PositionLemmas.{position-cons, position_agree, IsAt-position}
 use Rattle.vt_model.proofs.PlacesLemmas.{same_name, is_name-itself}
 use Rattle.vt_model.proofs.DistinctLemmas.{is_some-position}
 use Rattle.vt_model.proofs.AboveLemmas.{same_bool}

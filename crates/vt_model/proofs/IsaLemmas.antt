@@ -1,10 +1,10 @@
 -- The test of classes above a class, and the paths of supertypes that it stands for.
-use Rattle.std.proofs.Common.{◌≡◌, ℕ, zero, suc, List, [], ◌∷◌, length, map, get_or, refl, sym, ap, subst, ◌∙◌, ◌⊎◌, ⊎_elim, Bool, true, false, arith}
-use Rattle.std.specs.Prelude.{◌<◌, ◌≤◌, ◌||◌, ◌==◌, ◌↔◌, nat_eq, All, Contains, slice_get, unwrap_or, Option, Some, None}
+use Rattle.std.proofs.Common.{◌≡◌, ℕ, zero, suc, List, [], ◌∷◌, length, map, refl, sym, ap, subst, ⊎_elim, Bool, true, false, arith}
+use Rattle.std.specs.Prelude.{◌<◌, ◌≤◌, ◌==◌, ◌↔◌, nat_eq, All, Contains, slice_get, unwrap_or, Option, Some, None}
 use Rattle.std.specs.List.{list_any, IsDistinct, AllByRecursion}
 use Rattle.std.proofs.lemmas.Bool.{eqb-true, eq-eqb, or_cases, or_parts, or_left, or_right, true≢false}
 use Rattle.std.proofs.lemmas.List.{length-map}
-use Rattle.std.proofs.lemmas.List.Elements.{All-contains, All-nil, All-get_or}
+use Rattle.std.proofs.lemmas.List.Elements.{All-contains, All-nil}
 use Rattle.std.proofs.lemmas.List.Folds.{Any-from_list_any, list_any_at}
 use Rattle.std.proofs.lemmas.Map.Keys.{IsDistinct-cons, IsDistinct-tail}
 use Rattle.std.proofs.lemmas.Map.Steps.{length-le_from_distinct_below}

@@ -29,7 +29,7 @@ use Rattle.std.proofs.lemmas.List.Elements.{All-head, All-tail}
 use Rattle.vt_model.specs.Metamodel.{Metamodel}
 use Rattle.vt_model.specs.Model.{Model}
 use Rattle.vt_model.specs.Effect.{effect}
-use Rattle.vt_model.specs.Transaction.{Stop, changes_from, transaction, stopped_at, and_then}
+use Rattle.vt_model.specs.Transaction.{changes_from, transaction, stopped_at, and_then}
 use Rattle.vt_model.specs.Sound.{IsSound}
 use Rattle.vt_model.specs.Storable.{GivesStorable}
 use Rattle.vt_model.specs.Valid.{IsValid}

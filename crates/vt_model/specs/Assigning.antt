@@ -13,7 +13,6 @@ use Rattle.vt_base.specs.declared.value.Kind.TheVariants as kind
 use Rattle.vt_model.specs.Metamodel.{Metamodel}
 use Rattle.vt_facts.specs.Names.{is_name}
 use Rattle.vt_model.specs.Model.{Model}
-use Rattle.vt_model.specs.Creating.{default_value}
 use Rattle.vt_model.specs.declared.metamodel.Feature.{Feature}
 use Rattle.vt_model.specs.declared.metamodel.Feature.TheVariants.{Attr, Ref}
 use Rattle.vt_model.specs.declared.model.AttributeValue.{AttributeValue}

@@ -1,5 +1,5 @@
 -- What contains what, directly and indirectly.
-use Rattle.std.specs.Prelude.{◌≡◌, ℕ, zero, suc, ◌&&◌, ◌||◌, ◌==◌, List, [], ◌∷◌, length, find, Contains, Bool, true, false, not, Option, Some, None, option_map}
+use Rattle.std.specs.Prelude.{◌≡◌, ℕ, zero, suc, ◌&&◌, ◌||◌, ◌==◌, List, [], ◌∷◌, length, find, Contains, Bool, true, false, not, Option, option_map}
 use Rattle.std.specs.Option.{option_map_or}
 use Rattle.vt_base.specs.declared.numbers.ObjId.{ObjId}
 use Rattle.vt_model.specs.Metamodel.{Metamodel}

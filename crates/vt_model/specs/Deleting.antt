@@ -1,5 +1,5 @@
 -- What Delete does: an object goes with all that is in it, and with every link that touches these.
-use Rattle.std.specs.Prelude.{◌||◌, List, filter, fold, Bool, not}
+use Rattle.std.specs.Prelude.{◌||◌, List, filter, fold, not}
 use Rattle.std.specs.BTreeSet.{insert_key}
 use Rattle.std.specs.declared.cmp.Ordering.{Ordering}
 use Rattle.std.specs.Ordering.{nat_cmp}

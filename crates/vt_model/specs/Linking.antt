@@ -10,7 +10,6 @@ use Rattle.vt_model.specs.Metamodel.{Metamodel, isa}
 use Rattle.vt_model.specs.Model.{Model}
 use Rattle.vt_model.specs.declared.metamodel.Feature.{Feature}
 use Rattle.vt_model.specs.declared.metamodel.Feature.TheVariants.{Attr, Ref}
-use Rattle.vt_model.specs.declared.metamodel.RefInfo.{RefInfo}
 use Rattle.vt_model.specs.declared.model.Object.{Object}
 use Rattle.vt_model.specs.declared.model.Link.{Link}
 

@@ -1,5 +1,5 @@
 -- What holds of each metamodel.
-use Rattle.std.specs.Prelude.{◌≡◌, ◌≢◌, ◌<◌, ◌≤◌, ℕ, List, length, slice_get, All, false, true, Option, Some}
+use Rattle.std.specs.Prelude.{◌≡◌, ◌≢◌, ◌<◌, length, slice_get, All, false, true, Some}
 use Rattle.vt_base.specs.declared.numbers.AttrId.{AttrId}
 use Rattle.vt_base.specs.declared.numbers.ClassId.{ClassId}
 use Rattle.vt_base.specs.declared.numbers.RefId.{RefId}

@@ -1,5 +1,5 @@
 // The features of each class by their names.
-ghost use Rattle.std.specs.Prelude.{◌≡◌, ◌++◌, ◌&&◌, ◌==◌, ◌≤◌, ℕ, IfOk, OnOk, map, length, nat_eq};
+ghost use Rattle.std.specs.Prelude.{◌≡◌, ◌++◌, ◌==◌, ◌≤◌, ℕ, IfOk, OnOk, map, length, nat_eq};
 ghost use Rattle.std.specs.Option.{option_or};
 ghost use Rattle.indexmap.specs.IndexMap.{get};
 ghost use Rattle.vt_model.specs.Inside.Tables.{is_marked};

@@ -1,5 +1,5 @@
 // What holds of every metamodel, and of every model that changes make.
-ghost use Rattle.std.specs.Prelude.{ℕ, ◌≡◌, ◌<◌, ◌⊎◌, ◌↔◌, All, List, length, true, Ok};
+ghost use Rattle.std.specs.Prelude.{◌≡◌, ◌⊎◌, ◌↔◌, All, List, length, true, Ok};
 ghost use Rattle.std.specs.List.Sorted.{IsStrictlySortedBy};
 ghost use Rattle.vt_base.specs.Rows.{Ascends};
 ghost use Rattle.vt_base.specs.declared.numbers.ObjId.{ObjId};

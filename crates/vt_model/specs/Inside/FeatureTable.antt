@@ -1,6 +1,5 @@
 -- The features of each class by the numbers of their names.
 use Rattle.std.specs.Prelude.{◌≡◌, ℕ, ◌+◌, ◌&&◌, ◌==◌, List, [], ◌∷◌, ◌++◌, map, length, find, slice_get, unwrap_or, nat_eq, nat_lt, Bool, if◌then◌else◌, Option, Some, None, option_map, option_and_then}
-use Rattle.std.specs.Option.{option_or}
 use Rattle.indexmap.specs.IndexMap.{IndexMap, get}
 use Rattle.vt_base.specs.declared.numbers.ClassId.{ClassId}
 use Rattle.vt_model.specs.Metamodel.{Metamodel, as_metamodel, feature}

@@ -1,4 +1,4 @@
-use Rattle.std.proofs.Common.{◌≡◌, ◌++◌, drop, map}
+use Rattle.std.proofs.Common.{◌≡◌, ◌++◌, drop}
 use Rattle.vt_model.specs.Above.{ids}
 use Rattle.vt_meta.proofs.building.all_class_ids.Given as goal
 

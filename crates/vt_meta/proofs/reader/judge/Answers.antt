@@ -1,7 +1,7 @@
 use Rattle.std.proofs.Common.{◌≡◌, Some, Err, rules, subst, sym}
 use Rattle.std.specs.Prelude.{IfErr}
 use Rattle.vt_meta.specs.Faults.{first_fault}
-use Rattle.vt_meta.specs.Reading.{judged, unless_faulty, IsFaultOf}
+use Rattle.vt_meta.specs.Reading.{judged, IsFaultOf}
 use Rattle.vt_meta.specs.Built.{metamodel_of}
 use Rattle.vt_meta.specs.Inside.Refused.{IsFaultIn}
 use Rattle.vt_meta.proofs.Sound.{sound_document}

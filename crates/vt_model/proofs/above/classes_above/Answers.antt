@@ -1,4 +1,4 @@
-use Rattle.std.proofs.Common.{◌≡◌, ◌+◌, ◌≤◌, List, ℕ, [], length, nat_eq, slice_get, Some, None, rules, arith, sym, subst}
+use Rattle.std.proofs.Common.{◌≡◌, ◌+◌, ◌≤◌, [], length, nat_eq, slice_get, Some, rules, sym, subst}
 use Rattle.indexmap.specs.IndexSet.{insert_all}
 use Rattle.vt_model.specs.Above.{supers_at}
 use Rattle.vt_model.proofs.AboveLemmas.{IsWalk, walk_start, walk_step, above_end, above_all}

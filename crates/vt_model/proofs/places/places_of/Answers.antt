@@ -1,4 +1,4 @@
-use Rattle.std.proofs.Common.{List, ℕ, get_or, subst}
+use Rattle.std.proofs.Common.{get_or, subst}
 use Rattle.vt_model.specs.Places.{AddsPlace}
 use Rattle.vt_model.proofs.PlacesLemmas.{FindsIn_more}
 use Rattle.vt_model.proofs.places.places_of.Goals as goal

@@ -1,4 +1,4 @@
-use Rattle.std.proofs.Common.{◌≡◌, List, length, subst}
+use Rattle.std.proofs.Common.{length, subst}
 use Rattle.vt_model.specs.Inside.Tables.{FindsEnumInfo, FindsClassInfo, MarksAbove}
 use Rattle.vt_model.specs.Inside.FeatureTable.{AreFeatures}
 use Rattle.vt_model.proofs.FeatureLemmas.{marks_classes, features_found}

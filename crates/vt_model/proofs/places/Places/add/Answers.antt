@@ -1,4 +1,4 @@
-use Rattle.std.proofs.Common.{◌≡◌, ℕ, List, true, false, Some, rules, subst}
+use Rattle.std.proofs.Common.{◌≡◌, true, false, Some, rules, subst}
 use Rattle.std.specs.Prelude.{is_some, string_bytes}
 use Rattle.std.specs.Str.{bytes_eq}
 use Rattle.std.specs.Map.{update}
