@@ -28,7 +28,7 @@ use Rattle.vt_model_json.proofs.DifferenceLemmas.{slice_get-added}
 
 length-added : (plan : List (List RefId)) (own : List RefId) → length (plan ++ own ∷ []) ≡ length plan + 1
 length-added [] own = refl
-length-added (x ∷ plan) own = ap suc (length-added plan own)
+length-added (x ∷ plan) own = let rest = length-added plan own in omega (arith, rest)
 
 -- the next class's references are added
 pub add_class : (meta : Metamodel) (c : ℕ) (plan : List (List RefId)) (own : List RefId)
@@ -120,4 +120,4 @@ module _ (meta : Metamodel) (g : Model) (valid : IsValid meta g) (o : ObjId) (c 
       → members_by meta g (links_of g o) no_members found ≡ link_members g (links_of g o) no_members 0 meta.references
   links_planned plan found is at =
       ap (members_by meta g (links_of g o) no_members) (at ∙ planned plan is)
-      ∙ owned_members no_members 0 meta.references (λ i. refl)
+      ∙ owned_members no_members 0 meta.references (λ i. let same : 0 + i ≡ i = omega arith in ap (slice_get meta.references) same)

@@ -33,7 +33,7 @@ pub enum ModelFault {
     BadShape,
     /// The document has its shape, and the change with this place in its list, counted from 0, is
     /// the first that is refused.
-    #[error("of the document's changes, counted from 0, the one at {index} is the first that is refused: {why:?}")]
+    #[error("of the document's changes, counted from 0, the one at {index} is the first that is refused: {why}")]
     Item { index: u64, why: Refusal },
     /// Memory ran out. It may stand for any other answer.
     #[error("memory ran out before the model was made")]
