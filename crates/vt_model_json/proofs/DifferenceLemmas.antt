@@ -5,7 +5,7 @@ use Rattle.vt_base.specs.declared.value.Value.{Value}
 use Rattle.vt_model_json.specs.Difference.{IsAllAdded, AreAllAdded}
 
 -- what a list has is what it had before, or what was added at its end
-slice_get-added : {A : Type 0} (xs : List A) (x y : A) (i : ℕ) → slice_get (xs ++ x ∷ []) i ≡ Some y → (slice_get xs i ≡ Some y) ⊎ ((i ≡ length xs) × (x ≡ y))
+pub slice_get-added : {A : Type 0} (xs : List A) (x y : A) (i : ℕ) → slice_get (xs ++ x ∷ []) i ≡ Some y → (slice_get xs i ≡ Some y) ⊎ ((i ≡ length xs) × (x ≡ y))
 slice_get-added [] x y zero is = inr (refl, cc)
 slice_get-added [] x y (suc i) is = cc
 slice_get-added (z ∷ zs) x y zero is = inl is

@@ -2,6 +2,7 @@ pub mod StopLemmas
 pub mod LoadingLemmas
 pub mod NextLemmas
 pub mod DifferenceLemmas
+pub mod PlanLemmas
 pub mod JoinedLemmas
 pub mod NoFloats
 pub mod TextLemmas

@@ -1,7 +1,8 @@
 // The difference of a model from the empty one.
-ghost use Rattle.std.specs.Prelude.{◌≡◌, length, IfOk};
+ghost use Rattle.std.specs.Prelude.{◌≡◌, ◌<◌, length, IfOk};
 ghost use Rattle.vt_model.specs.Base.{base_of};
 ghost use Rattle.vt_model_json.specs.Difference.{IsAllAdded, AreAllAdded, IsFromEmpty};
+ghost use Rattle.vt_model_json.specs.Inside.Parts.{count_of, rows_of};
 
 use std::alloc::Global;
 use std::marker::Brand;
@@ -19,61 +20,48 @@ fn all_added(alloc: Global, rows: Rows) -> Delta
     }
 }
 
-#[tactic(auto, using(crate::proofs::DifferenceLemmas::add_delta))]
-fn class_deltas<B: Base, L: Ledger>(
-    alloc: Global,
-    base: &B,
-    count: u16,
-    steps: &mut Steps<L>,
-) -> Result<List<Delta>, NoMemory>
-    requires { count ≡ (B.rows base.now).counts.classes }
-    ensures count { IfOk result (λ deltas. length deltas ≡ count) }
-    ensures rows { IfOk result (λ deltas.
-        AreAllAdded (λ c. (B.rows base.now).of_class (record { 0 = c })) deltas) }
-{
-    let mut deltas = List::new(alloc);
-    for c in 0..count {
-        let rows = base.class_rows(alloc, ClassId(c), steps)?;
-        deltas.add(all_added(alloc, rows))?;
-    }
-    Ok(deltas)
+/// What has rows by number: classes, attributes or references.
+#[derive(Clone, Copy)]
+pub enum Part {
+    Classes,
+    Attributes,
+    References,
 }
 
-#[tactic(auto, using(crate::proofs::DifferenceLemmas::add_delta))]
-fn attribute_deltas<B: Base, L: Ledger>(
+// The rows of the class, the attribute or the reference with a number.
+fn rows_at<B: Base, L: Ledger>(
     alloc: Global,
     base: &B,
-    count: u16,
+    part: Part,
+    n: u16,
     steps: &mut Steps<L>,
-) -> Result<List<Delta>, NoMemory>
-    requires { count ≡ (B.rows base.now).counts.attributes }
-    ensures count { IfOk result (λ deltas. length deltas ≡ count) }
-    ensures rows { IfOk result (λ deltas.
-        AreAllAdded (λ a. (B.rows base.now).of_attribute (record { 0 = a })) deltas) }
+) -> Result<Rows, NoMemory>
+    requires { n < count_of part (B.rows base.now) }
+    ensures { IfOk result (λ found. found.items ≡ rows_of part (B.rows base.now) n) }
 {
-    let mut deltas = List::new(alloc);
-    for a in 0..count {
-        let rows = base.attr_rows(alloc, AttrId(a), steps)?;
-        deltas.add(all_added(alloc, rows))?;
+    match part {
+        Part::Classes => base.class_rows(alloc, ClassId(n), steps),
+        Part::Attributes => base.attr_rows(alloc, AttrId(n), steps),
+        Part::References => base.ref_rows(alloc, RefId(n), steps),
     }
-    Ok(deltas)
 }
 
+// A delta for each of them, which adds its rows.
 #[tactic(auto, using(crate::proofs::DifferenceLemmas::add_delta))]
-fn reference_deltas<B: Base, L: Ledger>(
+fn deltas_of<B: Base, L: Ledger>(
     alloc: Global,
     base: &B,
+    part: Part,
     count: u16,
     steps: &mut Steps<L>,
 ) -> Result<List<Delta>, NoMemory>
-    requires { count ≡ (B.rows base.now).counts.references }
+    requires { count ≡ count_of part (B.rows base.now) }
     ensures count { IfOk result (λ deltas. length deltas ≡ count) }
-    ensures rows { IfOk result (λ deltas.
-        AreAllAdded (λ r. (B.rows base.now).of_reference (record { 0 = r })) deltas) }
+    ensures rows { IfOk result (AreAllAdded (rows_of part (B.rows base.now))) }
 {
     let mut deltas = List::new(alloc);
-    for r in 0..count {
-        let rows = base.ref_rows(alloc, RefId(r), steps)?;
+    for n in 0..count {
+        let rows = rows_at(alloc, base, part, n, steps)?;
         deltas.add(all_added(alloc, rows))?;
     }
     Ok(deltas)
@@ -88,9 +76,15 @@ fn counted<L: Ledger>(alloc: Global, store: &Store, blank: Blank) -> Result<Base
 {
     let mut steps = Steps::<L>::new(blank);
     let meta = store.meta();
-    let classes = class_deltas(alloc, store, meta.class_count(), &mut steps)?;
-    let attributes = attribute_deltas(alloc, store, meta.attr_count(), &mut steps)?;
-    let references = reference_deltas(alloc, store, meta.ref_count(), &mut steps)?;
+    let classes = deltas_of(alloc, store, Part::Classes, meta.class_count(), &mut steps)?;
+    let attributes = deltas_of(
+        alloc,
+        store,
+        Part::Attributes,
+        meta.attr_count(),
+        &mut steps,
+    )?;
+    let references = deltas_of(alloc, store, Part::References, meta.ref_count(), &mut steps)?;
     Ok(BaseDelta::new(classes, attributes, references))
 }
 

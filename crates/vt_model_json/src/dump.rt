@@ -1,14 +1,17 @@
 // The text of a model: its document, with all keys.
-ghost use Rattle.std.specs.Prelude.{◌≡◌, ◌++◌, true, false, IfOk, OnOk, option_and_then, slice_get, string_bytes};
+ghost use Rattle.std.specs.Prelude.{◌≡◌, ◌++◌, Some, true, false, length, IfOk, OnOk, option_and_then, slice_get, string_bytes};
 ghost use Rattle.std.specs.Option.{option_copied};
 ghost use Rattle.serde_json.specs.Data.{array, object, string, no_members, Items, no_items, item};
 ghost use Rattle.serde_json.specs.View.{view, members_view};
 ghost use Rattle.serde_json.specs.Written.{comma_if, items_text};
+ghost use Rattle.vt_graph.specs.Asked.{class_at};
 ghost use Rattle.vt_model_json.specs.Dump.{class_name, attribute_name, literal_name, values_of, value_data, attribute_members, links_of, target_names, texts, with_targets, link_members, object_data, objects_data, dump};
 ghost use Rattle.vt_model_json.specs.Inside.Joined.{joined};
+ghost use Rattle.vt_model_json.specs.Inside.Plan.{IsPlan, reference_name, members_by};
 ghost use Rattle.vt_model_json.specs.Inside.Shown.{shown_name, shown_names};
 ghost use Rattle.vt_model_json.specs.Inside.Texts.{head_text, object_text};
 
+use crate::plan;
 use serde_json::{Map, Value, json};
 use std::alloc::{AllocError, Global};
 use vt_base::{AttrId, ClassId, List, NoMemory, ObjId, RefId, Text};
@@ -30,6 +33,15 @@ fn attribute_name(meta: &Metamodel, attribute: AttrId) -> &str
     ensures { result.now ≡ attribute_name meta.now attribute }
 {
     match meta.attribute(attribute) {
+        Some(info) => info.name.as_str(),
+        None => "",
+    }
+}
+
+fn reference_name(meta: &Metamodel, reference: RefId) -> &str
+    ensures { result.now ≡ reference_name meta.now reference }
+{
+    match meta.reference(reference) {
         Some(info) => info.name.as_str(),
         None => "",
     }
@@ -162,17 +174,43 @@ fn put_targets(
     Ok(())
 }
 
-// An object's links, each reference with a target under its name.
-fn links_data(alloc: Global, store: &Store, owner: ObjId) -> Result<Value, NoMemory>
+// An object's links by some references, each reference with a target under its name.
+fn links_by(
+    alloc: Global,
+    store: &Store,
+    owner: ObjId,
+    references: &[RefId],
+) -> Result<Value, NoMemory>
+    ensures { IfOk result (λ v. view v ≡ object
+        (members_by store.now.meta store.now.model (links_of store.now.model owner) no_members references.now)) }
+{
+    let meta = store.meta();
+    let mut members = Map::new(alloc);
+    for r in references {
+        let targets = target_items(alloc, store, owner, *r)?;
+        put_targets(&mut members, alloc, reference_name(meta, *r), targets)?;
+    }
+    Ok(Value::Object(members))
+}
+
+// All links of an object of a class.
+#[tactic(auto, using(crate::proofs::PlanLemmas::links_planned))]
+fn links_data(
+    alloc: Global,
+    store: &Store,
+    plan: &[List<RefId>],
+    owner: ObjId,
+    class: ClassId,
+) -> Result<Value, NoMemory>
+    requires plan { IsPlan store.now.meta (length store.now.meta.classes) plan.now }
+    requires live { class_at store.now.model owner ≡ Some class }
     ensures { IfOk result (λ v. view v ≡ object
         (link_members store.now.model (links_of store.now.model owner) no_members 0 store.now.meta.references)) }
 {
-    let mut members = Map::new(alloc);
-    for (r, info) in store.meta().references().iter().enumerate() {
-        let targets = target_items(alloc, store, owner, RefId(r as u16))?;
-        put_targets(&mut members, alloc, info.name.as_str(), targets)?;
-    }
-    Ok(Value::Object(members))
+    // A store's metamodel tells that its model is valid, so each link is of a reference of the class.
+    store.meta();
+    let links = links_by(alloc, store, owner, plan::at(plan, class))?;
+    Ok(links)
 }
 
 // ---- the document
@@ -208,14 +246,17 @@ fn object_of_parts(
 fn object_data(
     alloc: Global,
     store: &Store,
+    plan: &[List<RefId>],
     number: ObjId,
     class: ClassId,
 ) -> Result<Value, NoMemory>
+    requires plan { IsPlan store.now.meta (length store.now.meta.classes) plan.now }
+    requires live { class_at store.now.model number ≡ Some class }
     ensures { IfOk result (λ v. view v ≡ object_data store.now.meta store.now.model
         (record { number = number; name = shown_name store.now.model number; class = class })) }
 {
     let attributes = attributes_data(alloc, store, number)?;
-    let links = links_data(alloc, store, number)?;
+    let links = links_data(alloc, store, plan, number, class)?;
     Ok(object_of_parts(alloc, store, number, class, attributes, links)?)
 }
 
@@ -223,13 +264,16 @@ fn object_data(
 fn object_text(
     alloc: Global,
     store: &Store,
+    plan: &[List<RefId>],
     number: ObjId,
     class: ClassId,
 ) -> Result<String, NoMemory>
+    requires plan { IsPlan store.now.meta (length store.now.meta.classes) plan.now }
+    requires live { class_at store.now.model number ≡ Some class }
     ensures { IfOk result (λ text. string_bytes text ≡ object_text store.now.meta store.now.model
         (record { number = number; name = shown_name store.now.model number; class = class })) }
 {
-    let value = object_data(alloc, store, number, class)?;
+    let value = object_data(alloc, store, plan, number, class)?;
     Ok(value.to_string(alloc)?)
 }
 
@@ -245,7 +289,13 @@ fn write_item(text: &mut List<u8>, later: bool, item: &str) -> Result<(), NoMemo
 
 // Adds the text of the live objects, in rising number, with the bracket that ends it.
 #[tactic(auto, using(crate::proofs::Dumped::Objects::items_first, crate::proofs::Dumped::Objects::items_last, crate::proofs::Dumped::Objects::item_absent, crate::proofs::TextLemmas::text_there))]
-fn write_objects(alloc: Global, store: &Store, text: &mut List<u8>) -> Result<(), NoMemory>
+fn write_objects(
+    alloc: Global,
+    store: &Store,
+    plan: &[List<RefId>],
+    text: &mut List<u8>,
+) -> Result<(), NoMemory>
+    requires plan { IsPlan store.now.meta (length store.now.meta.classes) plan.now }
     ensures { OnOk result (text.new ≡ text.old
         ++ items_text false (objects_data store.now.meta store.now.model store.now.model.live)) }
 {
@@ -256,7 +306,7 @@ fn write_objects(alloc: Global, store: &Store, text: &mut List<u8>) -> Result<()
         let Some(class) = store.class_of(ObjId(number)) else {
             continue;
         };
-        let object = object_text(alloc, store, ObjId(number), class)?;
+        let object = object_text(alloc, store, plan, ObjId(number), class)?;
         write_item(text, later, object.as_str())?;
         later = true;
     }
@@ -274,9 +324,10 @@ fn head_text(alloc: Global, next: u32) -> Result<String, AllocError>
 pub fn write_model(alloc: Global, store: &Store) -> Result<List<u8>, NoMemory>
     ensures { IfOk result (λ text. text ≡ dump store.now.meta store.now.model) }
 {
+    let plan = plan::by_class(alloc, store.meta())?;
     let head = head_text(alloc, store.next_number())?;
     let mut text = List::from_vec(head.into_bytes());
-    write_objects(alloc, store, &mut text)?;
+    write_objects(alloc, store, plan.as_slice(), &mut text)?;
     text.add(b'}')?;
     Ok(text)
 }

@@ -10,6 +10,7 @@ mod document;
 mod loading;
 // The text of a model.
 mod dump;
+mod plan;
 
 // A document, the model that it makes, and what is new in it.
 pub use loading::{ModelFault, read_model, read_store};

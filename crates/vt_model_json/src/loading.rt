@@ -5,43 +5,61 @@ ghost use Rattle.vt_model.specs.Model.{empty_model};
 ghost use Rattle.vt_model.specs.declared.change.Change.TheVariants as change;
 ghost use Rattle.vt_model.specs.Effect.{effect};
 ghost use Rattle.vt_model.specs.Transaction.{changes_from, stopped_at, transaction};
-ghost use Rattle.vt_model.specs.Sound.{IsSound};
 ghost use Rattle.vt_model.specs.Base.{base_of};
 ghost use Rattle.vt_model_json.specs.ModelDocument.{rise, above_all};
 ghost use Rattle.vt_model_json.specs.Loading.{creations, assignment, assignments, linkings, changes_of, loaded, finished, judged, IsFaultOf};
 ghost use Rattle.vt_model_json.specs.Difference.{IsFromEmpty};
 ghost use Rattle.vt_model_json.specs.Inside.Stops.{IsStopOf};
+ghost use Rattle.vt_model_json.specs.declared.loading.ModelFault.TheVariants as fault;
 
 use crate::difference::from_empty;
 use crate::document::{Entry, ModelDocument, ObjectDocument};
-use std::alloc::Global;
+use std::alloc::{AllocError, AllocFailed, Global};
+use thiserror::Error;
 use vt_base::{BaseDelta, List, NoMemory, Text};
 use vt_json::{JsonFault, ObjectName, Shape, ShapeFault, parse};
 use vt_meta::{Change, Metamodel, Refusal};
 use vt_store::{Store, StoreFault};
 
 /// Why a model document is refused.
-#[derive(Clone, Copy, Debug, PartialEq, Eq)]
+#[derive(Clone, Copy, Debug, PartialEq, Eq, Error)]
 pub enum ModelFault {
-    /// The bytes are no JSON text.
+    /// The bytes are no JSON text, as `[1,]`.
+    #[error("the bytes are no JSON text, as `[1,]` is none")]
     NotJson,
     /// A key that isn't listed, a key that is missing, a value of another form, or numbers that
     /// don't rise.
+    #[error("a key is missing or is none of a model's, a value has another form, as `1` where a text belongs, or the numbers don't rise")]
     BadShape,
     /// The document has its shape, and the change with this place in its list, counted from 0, is
     /// the first that is refused.
+    #[error("of the document's changes, counted from 0, the one at {index} is the first that is refused: {why}")]
     Item { index: u64, why: Refusal },
     /// Memory ran out. It may stand for any other answer.
+    #[error("memory ran out before the model was made")]
     NoMemory,
 }
 
 impl From<NoMemory> for ModelFault {
-    ghost use Rattle.std.specs.Prelude.{◌≡◌};
-    ghost use Rattle.vt_model_json.specs.declared.loading.ModelFault.TheVariants as fault;
-
     ghost from_gives = { λ _ e. e ≡ fault.NoMemory };
 
     fn from(_: NoMemory) -> ModelFault {
+        ModelFault::NoMemory
+    }
+}
+
+impl From<AllocError> for ModelFault {
+    ghost from_gives = { λ _ e. e ≡ fault.NoMemory };
+
+    fn from(_: AllocError) -> ModelFault {
+        ModelFault::NoMemory
+    }
+}
+
+impl<T: Drop> From<AllocFailed<T>> for ModelFault {
+    ghost from_gives = { λ _ e. e ≡ fault.NoMemory };
+
+    fn from(_: AllocFailed<T>) -> ModelFault {
         ModelFault::NoMemory
     }
 }
@@ -225,13 +243,14 @@ fn apply_all(store: &mut Store, alloc: Global, changes: &[Change]) -> Result<(),
 
 // The model after all changes, or the first that is refused.
 fn transact(alloc: Global, meta: &Metamodel, changes: &[Change]) -> Result<Store, ModelFault>
-    requires sound { IsSound meta.now }
     ensures made { IfOk result (λ store.
         transaction meta.now empty_model changes.now ≡ Ok store.model) }
     ensures of { IfOk result (λ store. store.meta ≡ meta.now) }
     ensures refused { IfErr result (λ fault.
         IsStopOf fault (transaction meta.now empty_model changes.now)) }
 {
+    // A metamodel tells that it is sound.
+    meta.is_sound();
     let mut store = Store::new(alloc, meta)?;
     apply_all(&mut store, alloc, changes)?;
     Ok(store)
@@ -240,7 +259,6 @@ fn transact(alloc: Global, meta: &Metamodel, changes: &[Change]) -> Result<Store
 // The model that the changes of a document make, or the first that is refused.
 #[tactic(auto, using(crate::proofs::NextLemmas::next_covered))]
 fn make(alloc: Global, meta: &Metamodel, document: ModelDocument) -> Result<Store, ModelFault>
-    requires sound { IsSound meta.now }
     requires rises { rise 0 document.objects ≡ true }
     requires covers { above_all 0 document.objects ≤ document.next }
     ensures made { IfOk result (λ store.
@@ -257,7 +275,6 @@ fn make(alloc: Global, meta: &Metamodel, document: ModelDocument) -> Result<Stor
 // The model of a document that has its shape.
 #[tactic(auto, using(crate::proofs::StopLemmas::fault_of_stop))]
 fn build(alloc: Global, meta: &Metamodel, document: ModelDocument) -> Result<Store, ModelFault>
-    requires sound { IsSound meta.now }
     requires rises { rise 0 document.objects ≡ true }
     requires covers { above_all 0 document.objects ≤ document.next }
     requires few { document.next ≤ 1048576 }
@@ -274,7 +291,6 @@ fn build(alloc: Global, meta: &Metamodel, document: ModelDocument) -> Result<Sto
 
 /// The model that bytes spell over a metamodel, or the document's first fault.
 pub fn read_store(alloc: Global, meta: &Metamodel, bytes: &[u8]) -> Result<Store, ModelFault>
-    requires sound { IsSound meta.now }
     ensures accepted { IfOk result (λ store. loaded meta.now bytes.now ≡ Ok store.model) }
     ensures of { IfOk result (λ store. store.meta ≡ meta.now) }
     ensures refused { IfErr result (λ fault. IsFaultOf fault (loaded meta.now bytes.now)) }
@@ -289,7 +305,6 @@ pub fn read_model(
     meta: &Metamodel,
     bytes: &[u8],
 ) -> Result<(Store, BaseDelta), ModelFault>
-    requires sound { IsSound meta.now }
     ensures accepted { IfOk result (λ read. loaded meta.now bytes.now ≡ Ok read.0.model) }
     ensures of { IfOk result (λ read. read.0.meta ≡ meta.now) }
     ensures delta { IfOk result (λ read. IsFromEmpty (base_of read.0.meta read.0.model) read.1) }

@@ -1,85 +1,49 @@
 //! Documents with the answer that each must give, and the rows of the models that they make.
-ghost use Rattle.std.specs.Prelude.{IfOk};
-ghost use Rattle.vt_model.specs.Sound.{IsSound};
-ghost use Rattle.vt_model.specs.Base.{base_of};
-ghost use Rattle.vt_model_json.specs.Difference.{IsFromEmpty};
-
 use crate::{ModelFault, read_model, write_model};
 use std::alloc::Global;
 use std::process::Abort;
 use std::test::Fail;
-use vt_base::{BaseDelta, List};
-use vt_meta::{Metamodel, Refusal, read_meta};
-use vt_store::Store;
+use vt_meta::{Metamodel, read_meta};
 
+mod dumps;
 mod faults;
-mod plain;
 mod rows;
-mod whole;
 
 // The metamodel that a document declares.
-fn metamodel(alloc: Global, text: &str) -> Result<Metamodel, Fail>
-    ensures sound { IfOk result IsSound }
-{
+fn metamodel(alloc: Global, text: &str) -> Result<Metamodel, Fail> {
     Ok(read_meta(alloc, text.as_bytes())?)
 }
 
-// The model that a document makes of a metamodel, and what is new in it.
-fn read(alloc: Global, meta: &str, text: &str) -> Result<(Store, BaseDelta), Fail>
-    ensures { IfOk result (λ read. IsFromEmpty (base_of read.0.meta read.0.model) read.1) }
-{
+// The dump of the model that a document makes, or the document's fault.
+fn answer(alloc: Global, meta: &Metamodel, text: &[u8]) -> Result<String, Fail> {
+    let store = match read_model(alloc, meta, text) {
+        Ok((store, _)) => store,
+        Err(ModelFault::NotJson) => return Ok(String::from_str(alloc, "no JSON")?),
+        Err(ModelFault::BadShape) => return Ok(String::from_str(alloc, "bad shape")?),
+        Err(ModelFault::Item { index, why }) => return Ok(format!(in alloc; "{index} {why:?}")?),
+        Err(ModelFault::NoMemory) => return Err("no memory".into()),
+    };
+    let dump = write_model(alloc, &store)?;
+    Ok(String::from_str(alloc, str::from_utf8(dump.as_slice())?)?)
+}
+
+// In each line the document before the arrow gives what is behind it, and a dump gives itself.
+fn assert_answers(rt: &impl Abort, alloc: Global, meta: &str, table: &str) -> Result<(), Fail> {
     let meta = metamodel(alloc, meta)?;
-    Ok(read_model(alloc, &meta, text.as_bytes())?)
-}
-
-// The text of the model that a document makes.
-fn dump_of(alloc: Global, meta: &str, text: &str) -> Result<List<u8>, Fail> {
-    let (store, _) = read(alloc, meta, text)?;
-    Ok(write_model(alloc, &store)?)
-}
-
-// A document has this dump, and so has the dump itself.
-fn assert_dump(
-    rt: &impl Abort,
-    alloc: Global,
-    meta: &str,
-    text: &str,
-    dump: &str,
-) -> Result<(), Fail> {
-    for text in [text, dump] {
-        let written = dump_of(alloc, meta, text)?;
-        assert_eq!(rt; str::from_utf8(written.as_slice())?, dump, "{text}");
+    for line in table.lines() {
+        let (text, wanted) = line.split_once('→').ok_or("no answer")?;
+        assert_eq!(rt;
+            answer(alloc, &meta, text.as_bytes())?.as_str(),
+            wanted,
+            "{line}"
+        );
+        if wanted.starts_with('{') {
+            assert_eq!(rt;
+                answer(alloc, &meta, wanted.as_bytes())?.as_str(),
+                wanted,
+                "{line}"
+            );
+        }
     }
     Ok(())
-}
-
-// A document has this fault.
-fn assert_fault(
-    rt: &impl Abort,
-    alloc: Global,
-    meta: &str,
-    text: &[u8],
-    fault: ModelFault,
-) -> Result<(), Fail> {
-    let meta = metamodel(alloc, meta)?;
-    assert_eq!(rt; read_model(alloc, &meta, text).err(), Some(fault));
-    Ok(())
-}
-
-// Of the changes of a document the one with this number is the first that is refused.
-fn assert_refused(
-    rt: &impl Abort,
-    alloc: Global,
-    meta: &str,
-    objects: &str,
-    (index, why): (u64, Refusal),
-) -> Result<(), Fail> {
-    let text = format!(in alloc; "{{\"format\":1,\"objects\":[{objects}]}}")?;
-    assert_fault(
-        rt,
-        alloc,
-        meta,
-        text.as_bytes(),
-        ModelFault::Item { index, why },
-    )
 }
