@@ -1,29 +1,30 @@
 -- A store goes forward by changes and comes back by their edits, with no less room.
-use Rattle.std.proofs.Common.{arith, true, ◌≡◌, ℕ, List, [], ◌++◌, refl, sym, ap, subst, ◌∙◌, inl, inr}
-use Rattle.std.specs.Prelude.{◌≤◌, ◌==◌, IsSome, is_some, Option, None, Some, option_map, unwrap_or, Result, Ok, Err, IfOk}
-use Rattle.std.specs.Option.{option_or}
+use Rattle.std.proofs.Common.{arith, true, ◌≡◌, ℕ, ◌++◌, refl, sym, ap, subst, ◌∙◌, inl, inr}
+use Rattle.std.specs.Prelude.{◌≤◌, ◌==◌, IsSome, is_some, Option, None, Some, option_map, Result, Ok, Err, IfOk, OnErr}
 use Rattle.std.proofs.lemmas.Bool.{eqb-true, true≢false}
-use Rattle.std.proofs.lemmas.List.Folds.{find-append}
 use Rattle.vt_base.specs.declared.numbers.ObjId.{ObjId}
 use Rattle.vt_base.specs.declared.numbers.ClassId.{ClassId}
 use Rattle.vt_base.specs.declared.numbers.RefId.{RefId}
-use Rattle.vt_model.specs.Effect.{effect}
+use Rattle.vt_model.specs.Sound.{IsSound}
+use Rattle.vt_model.specs.Storable.{GivesStorable}
 use Rattle.vt_model.specs.Valid.{IsValid}
 use Rattle.vt_model.specs.declared.change.Change.{Change}
 use Rattle.vt_model.specs.declared.change.Refusal.{Refusal}
 use Rattle.vt_model.specs.declared.model.Object.{Object}
+use Rattle.vt_model.proofs.Valid.{IsValid-effect}
 use Rattle.vt_facts.proofs.MemberLemmas.{Contains-find, find-some}
-use Rattle.vt_slots.specs.Ends.{capacity_of}
 use Rattle.vt_slots.specs.declared.slot.Side.{Side}
 use Rattle.vt_graph.specs.Held.{Held, Place}
 use Rattle.vt_graph.specs.Asked.{live_at, gone_at}
-use Rattle.vt_graph.specs.Room.{place_at, class_kept, ends_of, capacity_at}
+use Rattle.vt_graph.specs.Room.{place_at, class_kept, capacity_at}
 use Rattle.vt_store.specs.Edits.{same_object, edit_of, undone}
 use Rattle.vt_store.specs.Undoing.{HeldEdit, KeepsRoomOf, Fits}
+use Rattle.vt_store.specs.Changing.{Makes}
+use Rattle.vt_store.specs.declared.fault.StoreFault.{StoreFault}
 use Rattle.vt_store.proofs.NetLemmas.{stands_or_went}
 use Rattle.vt_store.proofs.SameLemmas.{Decides-same_object}
 use Rattle.vt_store.proofs.UndoneLemmas.{undone-edit_of}
-use Rattle.vt_store.proofs.FitLemmas.{Fits-more}
+use Rattle.vt_store.proofs.FitLemmas.{place_at-first, place_at-then, room_in, Fits-more}
 use Rattle.vt_store.specs.Inside.Tested.{Stays, LeadsBack, IsStep, IsUndone, IsTakenBack}
 use Rattle.vt_store.proofs.GoneLemmas.{gone-effect}
 
@@ -33,27 +34,22 @@ less {a} {b} {c} x y = omega arith
 -- ---- a change
 
 -- the edit of a change leads back
-pub leads_back : (old new : Held) (e : HeldEdit) (c : Change) → effect old.meta old.model c ≡ Ok new.model → new.meta ≡ old.meta
-    → IsValid old.meta old.model → IsValid new.meta new.model → e.edit ≡ edit_of old.model new.model → Fits e new
-    → KeepsRoomOf old.model old.places (e.waiting ++ new.places) → LeadsBack e old new
-leads_back old new e c made same valid still is fits room = record {
-  meta = same;
-  fits = fits;
-  model = ap (λ d. undone d new.model) is ∙ undone-edit_of new.meta old.model new.model (subst (λ m. IsValid m old.model) (sym same) valid) still;
-  room = room;
-  gone = gone-effect old.meta old.model new.model c made;
+pub leads_back : (c : Change) (old new : Held) (r : Result HeldEdit StoreFault) → GivesStorable c → IsSound old.meta → IsValid old.meta old.model → Makes c old new r → IfOk r (λ e. LeadsBack e old new)
+leads_back c old new (Ok e) gives sound valid makes = record {
+  meta = makes.meta;
+  fits = makes.fits;
+  model = ap (λ d. undone d new.model) makes.edit ∙ undone-edit_of old.meta old.model new.model valid (IsValid-effect old.meta old.model new.model c sound valid gives makes.made);
+  room = makes.room;
+  gone = gone-effect old.meta old.model new.model c makes.made;
 }
+leads_back c old new (Err f) gives sound valid makes = tt
 
--- ---- places that wait before others
+-- where none is made the store stays
+pub stays_back : (c : Change) (old new : Held) (r : Result HeldEdit StoreFault) → Makes c old new r → OnErr r (Stays old new)
+stays_back c old new (Ok e) makes = tt
+stays_back c old new (Err f) makes = record { meta = makes.meta; model = makes.unchanged; room = makes.kept }
 
-place_at-first : (waiting places : List Place) (o : ObjId) (p : Place) → place_at waiting o ≡ Some p → place_at (waiting ++ places) o ≡ Some p
-place_at-first waiting places o p at = find-append (λ q. q.object.0 == o.0) waiting places ∙ ap (λ r. option_or r (place_at places o)) at
-
-place_at-then : (waiting places : List Place) (o : ObjId) → place_at waiting o ≡ None → place_at (waiting ++ places) o ≡ place_at places o
-place_at-then waiting places o at = find-append (λ q. q.object.0 == o.0) waiting places ∙ ap (λ r. option_or r (place_at places o)) at
-
-abbrev room_in : Side → RefId → Option Place → ℕ
-room_in side r p = capacity_of (unwrap_or (option_map (ends_of side) p) []) r
+-- ---- the class of a place
 
 abbrev class_in : Option Place → Option ClassId
 class_in p = option_map (λ p. p.class) p

@@ -1,12 +1,15 @@
 -- What creating an object puts into a model.
 use Rattle.std.proofs.Common.{◌++◌, ◌≡◌, ℕ, List, [], ◌∷◌, refl, sym, ap, subst, ◌∙◌, arith}
-use Rattle.std.specs.Prelude.{◌<◌, ◌≤◌, length, position, option_map, Option, None, Some, All, Contains}
+use Rattle.std.specs.Prelude.{◌<◌, ◌≤◌, length, position, option_map, Option, None, Some, All, Contains, Ok, Err}
 use Rattle.vt_facts.specs.Names.{is_name}
 use Rattle.vt_facts.proofs.PositionLemmas.{IsAt-position}
-use Rattle.vt_graph.specs.Held.{Held, Place}
+use Rattle.vt_graph.specs.Held.{Held}
 use Rattle.vt_graph.specs.Room.{KeepsRoom, HasRoom}
-use Rattle.vt_store.specs.Undoing.{HeldEdit, KeepsRoomOf, Fits}
-use Rattle.vt_store.proofs.FitLemmas.{fits_made}
+use Rattle.vt_store.specs.Undoing.{HeldEdit, KeepsRoomOf}
+use Rattle.vt_store.specs.Changing.{Makes}
+use Rattle.vt_store.specs.declared.fault.StoreFault.{StoreFault}
+use Rattle.vt_store.specs.declared.fault.StoreFault.TheVariants.{Refused, NoMemory}
+use Rattle.vt_store.proofs.MakesLemmas.{room_kept, makes_refusal, makes_nothing, makes_made}
 use Rattle.vt_store.specs.Inside.Kept.{creation}
 use Rattle.std.proofs.lemmas.List.Elements.{All-contains}
 use Rattle.vt_base.specs.declared.numbers.ClassId.{ClassId}
@@ -14,12 +17,16 @@ use Rattle.vt_model.specs.Metamodel.{Metamodel, class_named}
 use Rattle.vt_model.specs.Model.{Model}
 use Rattle.vt_model.specs.Creating.{defaults_from, created}
 use Rattle.vt_model.specs.Fits.{FitsAttribute}
+use Rattle.vt_model.specs.Effect.{effect}
+use Rattle.vt_model.specs.Sound.{IsSound}
 use Rattle.vt_model.specs.Valid.{IsValid}
+use Rattle.vt_model.specs.declared.change.Change.{Change}
+use Rattle.vt_model.specs.declared.change.Change.TheVariants.{Create}
+use Rattle.vt_model.specs.declared.change.Refusal.{Refusal}
 use Rattle.vt_model.specs.declared.model.Object.{Object}
 use Rattle.vt_model.specs.declared.model.AttributeValue.{AttributeValue}
 use Rattle.vt_model.proofs.Valid.Defaults.{defaults-object}
-use Rattle.vt_store.specs.Edits.{Edit, same_object, same_gone, same_value, same_link, edit_of}
-use Rattle.vt_store.specs.Inside.Displaced.{no_change}
+use Rattle.vt_store.specs.Edits.{same_object, same_gone, same_value, same_link, edit_of}
 use Rattle.vt_store.proofs.NetLemmas.{Contains-one, net-same, net-appended}
 use Rattle.vt_store.proofs.SameLemmas.{Decides-same_object, Decides-same_gone, Decides-same_value, Decides-same_link}
 
@@ -69,10 +76,6 @@ module _ (meta : Metamodel) (g : Model) (valid : IsValid meta g) (name : List �
 
 -- ---- the edit
 
--- no less room is kept for all
-pub room_kept : (g : Model) (old new : List Place) → KeepsRoom old new → KeepsRoomOf g old new
-room_kept g old new keeps = record { room = λ o side r live. keeps.room o side r; classes = λ o c gone is. keeps.classes o c is }
-
 module _ (old new : Held) (e : HeldEdit) (name : List ℕ) (c : ClassId) (number : ℕ) (valid : IsValid old.meta old.model) (above : old.model.next ≤ number)
     (made : new.model ≡ created old.meta old.model name c number)
     (is : e ≡ record {
@@ -81,19 +84,25 @@ module _ (old new : Held) (e : HeldEdit) (name : List ℕ) (c : ClassId) (number
       waiting = [];
     }) where
   -- it is what changed
-  pub created_edit : e.edit ≡ edit_of old.model new.model
+  created_edit : e.edit ≡ edit_of old.model new.model
   created_edit = ap (λ d. d.edit) is ∙ sym (edit_of-created old.meta old.model valid name c number above) ∙ ap (edit_of old.model) (sym made)
 
-  -- and it fits
-  pub created_fits : IsValid new.meta new.model → HasRoom old.places old.model → new.meta ≡ old.meta → KeepsRoom old.places new.places → Fits e new
-  created_fits still has meta keeps = fits_made e old new (record {
+  -- so the creation is made
+  pub makes_created : (class : List ℕ) (asked : Option ℕ) → IsSound old.meta → HasRoom old.places old.model → effect old.meta old.model (Create name class asked) ≡ Ok (created old.meta old.model name c number)
+      → new.meta ≡ old.meta → KeepsRoom old.places new.places → Makes (Create name class asked) old new (Ok e)
+  makes_created class asked sound has done meta keeps = makes_made (Create name class asked) old new e tt sound valid has meta (done ∙ ap Ok (sym made)) (record {
     of = ap (λ d. d.meta) is ∙ sym meta;
     is = created_edit;
     gone = λ x went. absurd (gone x (subst (λ d. Contains d.edit.live.removed x) is went));
     kept = λ x went. absurd (gone x (subst (λ d. Contains d.edit.live.removed x) is went));
     waits = λ x went. absurd (gone x (subst (λ d. Contains d.edit.live.removed x) is went));
     room = subst (λ d. KeepsRoomOf old.model old.places (d.waiting ++ new.places)) (sym is) (room_kept old.model old.places new.places keeps);
-  }) meta valid still has
+  })
     where
       gone : (x : Object) → Contains [] x → ⊥
       gone x there = absurd (omega arith)
+
+-- the creation isn't made: it is refused, or memory ran out
+pub makes_no_creation : (change : Change) (s : Held) (f : StoreFault) → ((why : Refusal) → f ≡ Refused why → effect s.meta s.model change ≡ Err why) → Makes change s s (Err f)
+makes_no_creation change s NoMemory refused = makes_nothing change s s NoMemory refl refl refl (record { room = λ o side r. omega arith; classes = λ o c is. is })
+makes_no_creation change s (Refused why) refused = makes_refusal change s (Refused why) why refl (refused why refl)

@@ -26,15 +26,15 @@ use Rattle.vt_store.proofs.UndoneLemmas.{undone-edit_of}
 -- ---- room
 
 -- a place that waits is found first
-place_at-first : (waiting places : List Place) (o : ObjId) (p : Place) → place_at waiting o ≡ Some p → place_at (waiting ++ places) o ≡ Some p
+pub place_at-first : (waiting places : List Place) (o : ObjId) (p : Place) → place_at waiting o ≡ Some p → place_at (waiting ++ places) o ≡ Some p
 place_at-first waiting places o p at = find-append (λ q. q.object.0 == o.0) waiting places ∙ ap (λ r. option_or r (place_at places o)) at
 
 -- where none waits, the others are looked through
-place_at-then : (waiting places : List Place) (o : ObjId) → place_at waiting o ≡ None → place_at (waiting ++ places) o ≡ place_at places o
+pub place_at-then : (waiting places : List Place) (o : ObjId) → place_at waiting o ≡ None → place_at (waiting ++ places) o ≡ place_at places o
 place_at-then waiting places o at = find-append (λ q. q.object.0 == o.0) waiting places ∙ ap (λ r. option_or r (place_at places o)) at
 
 -- how much room a place has
-abbrev room_in : Side → RefId → Option Place → ℕ
+abbrev pub room_in : Side → RefId → Option Place → ℕ
 room_in side r p = capacity_of (unwrap_or (option_map (ends_of side) p) []) r
 
 -- ---- an edit that a change makes

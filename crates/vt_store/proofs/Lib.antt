@@ -2,7 +2,6 @@ pub mod RisingLemmas
 pub mod EditLemmas
 pub mod SameLemmas
 pub mod UndoneLemmas
-pub mod NamedLemmas
 pub mod Linking
 pub mod Deleting
 pub mod NetLemmas
@@ -15,3 +14,4 @@ pub mod StoreLemmas
 pub mod LinkageLemmas
 pub mod GoneLemmas
 pub mod BackLemmas
+pub mod MakesLemmas

@@ -6,23 +6,28 @@ use Rattle.vt_model.specs.Metamodel.{Metamodel}
 use Rattle.vt_model.specs.Model.{Model}
 use Rattle.vt_model.specs.Linking.{linked, relinked, unlinked, oriented, stands}
 use Rattle.vt_model.specs.Containing.{closes_cycle}
+use Rattle.vt_facts.specs.Firsts.{first_of}
 use Rattle.vt_model.specs.Effect.{unless_refused, link_asked, effect}
 use Rattle.vt_model.specs.Sound.{IsSound}
+use Rattle.vt_model.specs.Storable.{GivesStorable}
 use Rattle.vt_model.specs.Valid.{IsValid}
 use Rattle.vt_model.specs.declared.model.Link.{Link}
 use Rattle.vt_model.specs.declared.model.Object.{Object}
+use Rattle.vt_model.specs.declared.change.Change.{Change}
 use Rattle.vt_model.specs.declared.change.Change.TheVariants as change
 use Rattle.vt_model.specs.declared.change.Refusal.{Refusal}
 use Rattle.vt_model.specs.declared.change.Refusal.TheVariants.{ContainmentCycle}
 use Rattle.vt_graph.specs.Held.{Held}
 use Rattle.vt_graph.specs.Room.{HasRoom, KeepsRoom}
 use Rattle.vt_store.specs.Edits.{same_object, edit_of}
-use Rattle.vt_store.specs.Undoing.{Fits, HeldEdit, KeepsRoomOf}
-use Rattle.vt_store.specs.Inside.Asking.{link_tests, move_tests, link_effect}
+use Rattle.vt_store.specs.Undoing.{HeldEdit, KeepsRoomOf}
+use Rattle.vt_store.specs.Changing.{Makes}
+use Rattle.vt_store.specs.declared.fault.StoreFault.{StoreFault}
+use Rattle.vt_store.specs.declared.fault.StoreFault.TheVariants.{Refused}
+use Rattle.vt_asked.specs.Asking.{link_tests, move_tests, link_effect}
 use Rattle.vt_store.proofs.EditLemmas.{net-tells_apart}
 use Rattle.vt_store.proofs.SameLemmas.{Decides-same_object}
-use Rattle.vt_store.proofs.FitLemmas.{fits_made}
-use Rattle.vt_facts.specs.Firsts.{first_of}
+use Rattle.vt_store.proofs.MakesLemmas.{room_kept, makes_made}
 use Rattle.vt_facts.proofs.FirstLemmas.{first_of-some, first_of-none}
 
 -- ---- changes of links
@@ -92,24 +97,21 @@ StaysBeside_link_effect meta g after link made = by (closes_cycle meta g link) m
         ok_is : (x y : Model) → the_ok x ≡ the_ok y → x ≡ y
         ok_is x y e = ap (model_or x) e
 
--- ---- the edit fits
+-- ---- the edit
 
-module _ (old new : Held) (e : HeldEdit) (valid : IsValid old.meta old.model) (still : IsValid new.meta new.model)
-    (is : e ≡ record { meta = old.meta; edit = edit_of old.model new.model; waiting = [] }) (stays : StaysBeside old.model new.model)
+module _ (change : Change) (gives : GivesStorable change) (old new : Held) (sound : IsSound old.meta) (valid : IsValid old.meta old.model) (has : HasRoom old.places old.model)
     (meta : new.meta ≡ old.meta) (room : KeepsRoom old.places new.places) where
-  pub room_of_links : KeepsRoomOf old.model old.places (e.waiting ++ new.places)
-  room_of_links = subst (λ (d : HeldEdit). KeepsRoomOf old.model old.places (d.waiting ++ new.places)) (sym is)
-      (record { room = λ o side r live. room.room o side r; classes = λ o c gone is. room.classes o c is })
-
-  pub fits_of_links : HasRoom old.places old.model → Fits e new
-  fits_of_links has = fits_made e old new (record {
+  -- a change of links is made
+  makes_links : (e : HeldEdit) → e ≡ record { meta = old.meta; edit = edit_of old.model new.model; waiting = [] } → StaysBeside old.model new.model
+      → effect old.meta old.model change ≡ Ok new.model → Makes change old new (Ok e)
+  makes_links e is stays made = makes_made change old new e gives sound valid has meta made (record {
     of = ap (λ (d : HeldEdit). d.meta) is ∙ sym meta;
     is = ap (λ (d : HeldEdit). d.edit) is;
     gone = λ o went. absurd (none o went);
     kept = λ o went. absurd (none o went);
     waits = λ o went. absurd (none o went);
-    room = room_of_links;
-  }) meta valid still has
+    room = subst (λ (d : HeldEdit). KeepsRoomOf old.model old.places (d.waiting ++ new.places)) (sym is) (room_kept old.model old.places new.places room);
+  })
     where
       none : (o : Object) → Contains e.edit.live.removed o → ⊥
       none o went =
@@ -117,38 +119,23 @@ module _ (old new : Held) (e : HeldEdit) (valid : IsValid old.meta old.model) (s
           let here : Contains (edit_of old.model new.model).live.removed o = subst (λ (d : HeldEdit). Contains d.edit.live.removed o) is went in
           apart.removed_is_gone o here (subst (λ l. Contains l o) (sym stays.live) (apart.removed_stood o here))
 
--- ---- what a call answers
+  -- a link is made, or would close a cycle
+  pub makes_linked : (asked : Link) (r : Result HeldEdit StoreFault) → effect old.meta old.model change ≡ link_effect old.meta old.model asked
+      → OnOk r (link_effect old.meta old.model asked ≡ Ok new.model) → ((why : Refusal) → r ≡ Err (Refused why) → link_effect old.meta old.model asked ≡ Err why)
+      → IfOk r (λ e. e ≡ record { meta = old.meta; edit = edit_of old.model new.model; waiting = [] }) → OnErr r (new.model ≡ old.model) → Makes change old new r
+  makes_linked asked (Ok e) does made refused is unchanged = makes_links e is (StaysBeside_link_effect old.meta old.model new.model asked made) (does ∙ made)
+  makes_linked asked (Err f) does made refused is unchanged = record {
+    meta = meta;
+    made = tt;
+    refused = λ why same. does ∙ refused why same;
+    unchanged = unchanged;
+    edit = tt;
+    fits = tt;
+    room = tt;
+    kept = room_kept old.model old.places new.places room;
+  }
 
-module _ {B : Type 0} where
-  -- where a change is made the model is valid after it, and else it was before
-  pub valid_result : {A : Type 0} (P : Model → Type 0) (r : Result A B) (old new : Held) → IsSound old.meta × IsValid old.meta old.model → new.meta ≡ old.meta
-      → OnErr r (new.model ≡ old.model) → OnOk r (P new.model) → ((after : Model) → P after → IsValid old.meta after) → IsSound new.meta × IsValid new.meta new.model
-  valid_result P (Ok x) old new was meta err ok valid =
-      (subst IsSound (sym meta) was.0, subst (λ m. IsValid m new.model) (sym meta) (valid new.model ok))
-  valid_result P (Err x) old new was meta err ok valid =
-      (subst IsSound (sym meta) was.0, subst (λ m. IsValid m new.model) (sym meta) (subst (IsValid old.meta) (sym err) was.1))
-
-  -- an edit of links fits
-  pub fits_result : (r : Result HeldEdit B) (old new : Held) → IsValid old.meta old.model → IsValid new.meta new.model
-      → IfOk r (λ e. e ≡ record { meta = old.meta; edit = edit_of old.model new.model; waiting = [] }) → OnOk r (StaysBeside old.model new.model)
-      → new.meta ≡ old.meta → KeepsRoom old.places new.places → HasRoom old.places old.model → IfOk r (λ e. Fits e new)
-  fits_result (Ok e) old new valid still is stays meta room has = fits_of_links old new e valid still is stays meta room has
-  fits_result (Err x) old new valid still is stays meta room has = tt
-
-  pub room_result : (r : Result HeldEdit B) (old new : Held) → IfOk r (λ e. e ≡ record { meta = old.meta; edit = edit_of old.model new.model; waiting = [] })
-      → KeepsRoom old.places new.places → IfOk r (λ e. KeepsRoomOf old.model old.places (e.waiting ++ new.places))
-  room_result (Ok e) old new is room = subst (λ (d : HeldEdit). KeepsRoomOf old.model old.places (d.waiting ++ new.places)) (sym is)
-      (record { room = λ o side r live. room.room o side r; classes = λ o c gone is. room.classes o c is })
-  room_result (Err x) old new is room = tt
-
-  pub kept_result : {A : Type 0} (r : Result A B) (old new : Held) → KeepsRoom old.places new.places → OnErr r (KeepsRoomOf old.model old.places new.places)
-  kept_result (Ok e) old new room = tt
-  kept_result (Err x) old new room = record { room = λ o side r live. room.room o side r; classes = λ o c gone is. room.classes o c is }
-
-  pub stays_result : {A : Type 0} (r : Result A B) (meta : Metamodel) (g after : Model) (link : Link) → OnOk r (link_effect meta g link ≡ Ok after) → OnOk r (StaysBeside g after)
-  stays_result (Ok x) meta g after link made = StaysBeside_link_effect meta g after link made
-  stays_result (Err x) meta g after link made = tt
-
-  pub unmade_result : {A : Type 0} (r : Result A B) (meta : Metamodel) (g after : Model) (link : Link) → OnOk r (after ≡ unlinked meta g link) → OnOk r (StaysBeside g after)
-  unmade_result (Ok x) meta g after link made = subst (StaysBeside g) (sym made) (record { live = refl; next = refl })
-  unmade_result (Err x) meta g after link made = tt
+  -- a link is taken away
+  pub makes_unlinked : (asked : Link) (e : HeldEdit) → effect old.meta old.model change ≡ Ok (unlinked old.meta old.model asked) → new.model ≡ unlinked old.meta old.model asked
+      → e ≡ record { meta = old.meta; edit = edit_of old.model new.model; waiting = [] } → Makes change old new (Ok e)
+  makes_unlinked asked e does made is = makes_links e is (subst (StaysBeside old.model) (sym made) (record { live = refl; next = refl })) (does ∙ ap Ok (sym made))

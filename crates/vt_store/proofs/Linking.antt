@@ -15,3 +15,4 @@ pub mod Inside
 pub mod Live
 pub mod Anew
 pub mod Returning
+pub mod Childless

@@ -1,19 +1,14 @@
 -- What keeps a store's model valid.
-use Rattle.std.proofs.Common.{◌≡◌, ℕ, arith, refl, sym, ap, subst, ◌∙◌}
-use Rattle.std.specs.Prelude.{◌≤◌, ◌<◌, List, All, Ok}
+use Rattle.std.proofs.Common.{◌≡◌, ℕ, arith, refl, sym, subst}
+use Rattle.std.specs.Prelude.{◌≤◌, ◌<◌, All}
 use Rattle.std.proofs.lemmas.List.Elements.{All-weaker}
 use Rattle.vt_graph.specs.Held.{Held}
 use Rattle.vt_store.specs.Edits.{undone}
 use Rattle.vt_store.specs.Undoing.{HeldEdit, Fits}
 use Rattle.vt_model.specs.Metamodel.{Metamodel}
 use Rattle.vt_model.specs.Model.{Model, empty_model}
-use Rattle.vt_model.specs.Effect.{effect}
 use Rattle.vt_model.specs.Sound.{IsSound}
-use Rattle.vt_model.specs.Storable.{GivesStorable}
 use Rattle.vt_model.specs.Valid.{IsValid}
-use Rattle.vt_model.specs.declared.change.Change.{Change}
-use Rattle.vt_model.specs.declared.change.Change.TheVariants as change
-use Rattle.vt_model.proofs.Valid.{IsValid-effect}
 use Rattle.vt_model.proofs.Valid.Empty.{IsValid-empty_model}
 use Rattle.vt_model.proofs.Valid.FewerLinks.{LinkSide-stays}
 use Rattle.vt_model.proofs.Valid.Sides.{IsValid-sides, LinkSide-valid}
@@ -39,14 +34,6 @@ valid_next meta g n valid above below = IsValid-sides meta (record g { next = n 
   values_fit = valid.values_fit;
   values_there = valid.values_there;
 }) (LinkSide-stays meta g (record g { next = n }) (LinkSide-valid meta g valid) refl (λ x there. there))
-
--- what a change that isn't refused makes is valid
-pub valid_made : (meta : Metamodel) (g after : Model) (change : Change) → IsSound meta → IsValid meta g → GivesStorable change → effect meta g change ≡ Ok after → IsValid meta after
-valid_made meta g after change sound valid gives made = IsValid-effect meta g after change sound valid gives made
-
--- what a deletion makes is valid
-pub valid_deleted : (meta : Metamodel) (g after : Model) (name : List ℕ) → IsSound meta → IsValid meta g → effect meta g (change.Delete name) ≡ Ok after → IsValid meta after
-valid_deleted meta g after name sound valid made = IsValid-effect meta g after (change.Delete name) sound valid tt made
 
 -- after the next number rose
 pub valid_after : (old new : Held) (n : ℕ) → IsSound old.meta × IsValid old.meta old.model → new.meta ≡ old.meta → new.model ≡ record old.model { next = n }

@@ -1,6 +1,4 @@
 -- No public clause cites a module below.
-pub mod Named
-pub mod Asking
 pub mod Displaced
 pub mod Assigned
 pub mod Kept

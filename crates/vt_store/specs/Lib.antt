@@ -1,5 +1,6 @@
 -- words of public clauses; read them from the top
 pub mod Edits
 pub mod Undoing
--- words of private clauses alone
+pub mod Changing
+-- what the functions inside the crate promise each other
 pub mod Inside

@@ -1,93 +1,33 @@
 // What Set and Unset do.
-ghost use Rattle.std.specs.Prelude.{◌≡◌, [], IfOk, IfErr, OnOk, OnErr, Ok, Err};
+ghost use Rattle.std.specs.Prelude.{◌≡◌, [], IfOk, OnOk, OnErr};
 ghost use Rattle.std.specs.Option.{option_copied};
 ghost use Rattle.vt_model.specs.Assigning.{with_default_value};
-ghost use Rattle.vt_model.specs.Effect.{effect};
+ghost use Rattle.vt_model.specs.Sound.{IsSound};
 ghost use Rattle.vt_model.specs.Valid.{IsValid};
 ghost use Rattle.vt_model.specs.declared.change.Change.TheVariants as change;
 ghost use Rattle.vt_graph.specs.Asked.{value_at};
 ghost use Rattle.vt_graph.specs.Having.{HasAttribute};
-ghost use Rattle.vt_store.specs.Inside.Assigned.{held_value, value_change, values_edit};
+ghost use Rattle.vt_store.specs.Changing.{Makes};
+ghost use Rattle.vt_store.specs.Inside.Assigned.{same_given, held_value, value_change, values_edit};
 
 use crate::edit::Edit;
-use crate::naming::live_named;
-use crate::valuing::{attribute_asked, default_value, same_given, value_asked};
+use crate::fault::StoreFault;
 use std::alloc::Global;
+use vt_asked::{Assignment, set_asked, unset_asked};
 use vt_base::{AttrId, List, NoMemory, ObjId, Plain, Text, Value};
 use vt_graph::Graph;
-use vt_model::{AttributeValue, Given, Refusal};
+use vt_model::{AttributeValue, Given};
 
-/// An attribute of a live object, and the value that it gets, if any.
-#[derive(Debug, Drop)]
-pub(crate) struct Assignment {
-    pub(crate) object: ObjId,
-    pub(crate) attribute: AttrId,
-    pub(crate) value: Option<Value>,
-}
-
-// ---- what is asked for
-
-// The assignment that a set is.
-#[tactic(auto, using(crate::proofs::AssignmentLemmas::set_not_live, crate::proofs::AssignmentLemmas::set_no_feature, crate::proofs::AssignmentLemmas::set_no_attribute, crate::proofs::AssignmentLemmas::set_refused, crate::proofs::AssignmentLemmas::set_made, crate::proofs::AssignmentLemmas::has_attribute))]
-pub(crate) fn set_asked(
-    graph: &Graph,
-    name: &Text,
-    attribute: &Text,
-    given: &Given,
-) -> Result<Assignment, Refusal>
-    requires valid { IsValid graph.now.meta graph.now.model }
-    ensures made { IfOk result (λ a.
-        effect graph.now.meta graph.now.model (change.Set name.now attribute.now given.now)
-        ≡ Ok (with_default_value graph.now.model a.object a.attribute a.value)) }
-    ensures had { IfOk result (λ a. HasAttribute graph.now.meta graph.now.model a.object a.attribute) }
-    ensures refused { IfErr result (λ why.
-        effect graph.now.meta graph.now.model (change.Set name.now attribute.now given.now) ≡ Err why) }
+// Whether two values that may be missing are the same.
+fn same_given(one: Option<&Value>, other: Option<&Value>) -> bool
+    ensures { result ≡ same_given (option_copied one.entry) (option_copied other.entry) }
 {
-    let object = live_named(graph, name)?;
-    let Some(feature) = graph.meta().feature(object.class, attribute.as_str()) else {
-        return Err(Refusal::UnknownFeature);
-    };
-    let Some((attribute, kind)) = attribute_asked(graph.meta(), feature) else {
-        return Err(Refusal::WrongKind);
-    };
-    let value = value_asked(graph.meta(), given, kind)?;
-    Ok(Assignment {
-        object: object.number,
-        attribute,
-        value: Some(value),
-    })
+    match (one, other) {
+        (None, None) => true,
+        (Some(v), Some(w)) => v.compare(w).is_eq(),
+        _ => false,
+    }
 }
-
-// The assignment that an unset is.
-#[tactic(auto, using(crate::proofs::AssignmentLemmas::unset_not_live, crate::proofs::AssignmentLemmas::unset_no_feature, crate::proofs::AssignmentLemmas::unset_no_attribute, crate::proofs::AssignmentLemmas::unset_made, crate::proofs::AssignmentLemmas::has_attribute))]
-pub(crate) fn unset_asked(
-    graph: &Graph,
-    name: &Text,
-    attribute: &Text,
-) -> Result<Assignment, Refusal>
-    requires valid { IsValid graph.now.meta graph.now.model }
-    ensures made { IfOk result (λ a.
-        effect graph.now.meta graph.now.model (change.Unset name.now attribute.now)
-        ≡ Ok (with_default_value graph.now.model a.object a.attribute a.value)) }
-    ensures had { IfOk result (λ a. HasAttribute graph.now.meta graph.now.model a.object a.attribute) }
-    ensures refused { IfErr result (λ why.
-        effect graph.now.meta graph.now.model (change.Unset name.now attribute.now) ≡ Err why) }
-{
-    let object = live_named(graph, name)?;
-    let Some(feature) = graph.meta().feature(object.class, attribute.as_str()) else {
-        return Err(Refusal::UnknownFeature);
-    };
-    let Some((attribute, kind)) = attribute_asked(graph.meta(), feature) else {
-        return Err(Refusal::WrongKind);
-    };
-    Ok(Assignment {
-        object: object.number,
-        attribute,
-        value: default_value(kind),
-    })
-}
-
-// ---- what changes
 
 // The value that is held, as a list of one, where there is one.
 fn held(
@@ -129,7 +69,7 @@ fn value_change(
 }
 
 // Gives an attribute its value, or none.
-pub(crate) fn assign(graph: &mut Graph, alloc: Global, asked: Assignment) -> Result<Edit, NoMemory>
+fn assign(graph: &mut Graph, alloc: Global, asked: Assignment) -> Result<Edit, NoMemory>
     requires had { HasAttribute graph.old.meta graph.old.model asked.object asked.attribute }
     ensures meta { graph.new.meta ≡ graph.old.meta }
     ensures made { OnOk result (graph.new.model ≡ with_default_value graph.old.model asked.object asked.attribute asked.value) }
@@ -156,4 +96,43 @@ pub(crate) fn assign(graph: &mut Graph, alloc: Global, asked: Assignment) -> Res
     )?;
     graph.put_value(object, attribute, value);
     Ok(Edit::of_values(alloc, graph.meta(), graph.next(), added, removed))
+}
+
+// Makes a Set.
+#[tactic(auto, using(crate::proofs::MakesLemmas::makes_refusal, crate::proofs::AssignmentLemmas::makes_no_assignment))]
+pub(crate) fn set(
+    graph: &mut Graph,
+    alloc: Global,
+    name: &Text,
+    attribute: &Text,
+    given: &Given,
+) -> Result<Edit, StoreFault>
+    requires sound { IsSound graph.old.meta }
+    requires valid { IsValid graph.old.meta graph.old.model }
+    ensures { Makes (change.Set name.now attribute.now given.now) graph.old graph.new result }
+{
+    // They tell that the links fit in their room, and that the value can be held.
+    graph.meta();
+    given.is_givable();
+    let asked = set_asked(graph, name, attribute, given)?;
+    let edit = assign(graph, alloc, asked)?;
+    Ok(edit)
+}
+
+// Makes an Unset.
+#[tactic(auto, using(crate::proofs::MakesLemmas::makes_refusal, crate::proofs::AssignmentLemmas::makes_no_assignment))]
+pub(crate) fn unset(
+    graph: &mut Graph,
+    alloc: Global,
+    name: &Text,
+    attribute: &Text,
+) -> Result<Edit, StoreFault>
+    requires sound { IsSound graph.old.meta }
+    requires valid { IsValid graph.old.meta graph.old.model }
+    ensures { Makes (change.Unset name.now attribute.now) graph.old graph.new result }
+{
+    graph.meta();
+    let asked = unset_asked(graph, name, attribute)?;
+    let edit = assign(graph, alloc, asked)?;
+    Ok(edit)
 }

@@ -1,20 +1,21 @@
 // What Create does.
-ghost use Rattle.std.specs.Prelude.{◌≡◌, ◌<◌, ◌≤◌, [], false, length, IfOk, OnOk, OnErr, Ok, Err};
+ghost use Rattle.std.specs.Prelude.{◌≡◌, ◌<◌, ◌≤◌, [], false, length, IfOk, IfErr, OnOk, OnErr, Ok, Err};
 ghost use Rattle.vt_model.specs.Creating.{is_abstract, is_taken, is_reserved, begins_with_underscore, defaults_from, created};
 ghost use Rattle.vt_model.specs.Effect.{effect};
+ghost use Rattle.vt_model.specs.Sound.{IsSound};
 ghost use Rattle.vt_model.specs.Valid.{IsValid};
 ghost use Rattle.vt_model.specs.declared.change.Change.TheVariants as change;
 ghost use Rattle.vt_model.specs.declared.change.Refusal.{Refusal};
 ghost use Rattle.vt_graph.specs.Room.{KeepsRoom};
+ghost use Rattle.vt_store.specs.Changing.{Makes};
 ghost use Rattle.vt_store.specs.Inside.Kept.{creation};
 ghost use Rattle.vt_store.specs.declared.fault.StoreFault.TheVariants as fault;
 
 use crate::edit::Edit;
 use crate::fault::StoreFault;
-use crate::valuing::default_value;
 use std::alloc::Global;
 use vt_base::{AttrId, ClassId, List, NoMemory, ObjId, Text};
-use vt_graph::{Graph, Seen};
+use vt_graph::{Graph, Seen, default_value};
 use vt_model::{AttrInfo, AttributeValue, Metamodel, Object, Refusal};
 
 /// A number that no object can have, nor any above it.
@@ -66,7 +67,7 @@ fn is_reserved(alloc: Global, name: &Text, number: u32) -> Result<bool, NoMemory
 
 // The object that is asked for.
 #[tactic(auto, using(crate::proofs::CreateLemmas::class_in_range))]
-pub(crate) fn creation_asked(
+fn creation_asked(
     graph: &Graph,
     alloc: Global,
     name: &Text,
@@ -80,8 +81,8 @@ pub(crate) fn creation_asked(
     ensures above { IfOk result (λ object. graph.now.model.next ≤ object.number) }
     ensures small { IfOk result (λ object. object.number < 1048576) }
     ensures there { IfOk result (λ object. object.class.0 < length graph.now.meta.classes) }
-    ensures refused { (why : Refusal) → result ≡ Err (fault.Refused why)
-        → effect graph.now.meta graph.now.model (change.Create name.now class.now number) ≡ Err why }
+    ensures refused { IfErr result (λ e. (why : Refusal) → e ≡ fault.Refused why
+        → effect graph.now.meta graph.now.model (change.Create name.now class.now number) ≡ Err why) }
 {
     let Some(class) = graph.meta().class_named(class.as_str()) else {
         return Err(StoreFault::Refused(Refusal::UnknownClass));
@@ -131,7 +132,7 @@ fn defaults(
 }
 
 // Adds an object, with its attributes at their defaults.
-pub(crate) fn create(
+fn add_object(
     graph: &mut Graph,
     alloc: Global,
     name: &Text,
@@ -164,4 +165,26 @@ pub(crate) fn create(
         class,
     };
     Ok(Edit::of_creation(alloc, meta, next, object, values))
+}
+
+// Makes a Create.
+#[tactic(auto, using(crate::proofs::CreateLemmas::makes_no_creation))]
+pub(crate) fn create(
+    graph: &mut Graph,
+    alloc: Global,
+    name: &Text,
+    class: &Text,
+    number: Option<u32>,
+) -> Result<Edit, StoreFault>
+    requires sound { IsSound graph.old.meta }
+    requires valid { IsValid graph.old.meta graph.old.model }
+    ensures { Makes (change.Create name.now class.now number) graph.old graph.new result }
+{
+    // It tells that the links fit in their room.
+    graph.meta();
+    let asked = creation_asked(graph, alloc, name, class, number)?;
+    match add_object(graph, alloc, name, asked) {
+        Ok(edit) => Ok(edit),
+        Err(NoMemory) => Err(StoreFault::NoMemory),
+    }
 }

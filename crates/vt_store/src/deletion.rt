@@ -1,25 +1,28 @@
 // What Delete does: an object goes with all that is in it, their values, and the links that touch
 // them.
-ghost use Rattle.std.specs.Prelude.{◌≡◌, ◌≤◌, ◌+◌, ◌++◌, ◌∷◌, [], All, IfOk, IsSome, OnOk, OnErr, filter, length, map};
+ghost use Rattle.std.specs.Prelude.{◌≡◌, ◌≤◌, ◌+◌, ◌++◌, ◌∷◌, [], IfOk, IsSome, OnOk, OnErr, filter, length, map};
 ghost use Rattle.std.specs.List.{filter_map, flat_map};
 ghost use Rattle.vt_model.specs.Containing.{is_inside};
 ghost use Rattle.vt_model.specs.Deleting.{deleted};
+ghost use Rattle.vt_model.specs.Sound.{IsSound};
 ghost use Rattle.vt_model.specs.Valid.{IsValid};
+ghost use Rattle.vt_model.specs.declared.change.Change.TheVariants as change;
 ghost use Rattle.vt_graph.specs.Asked.{live_at};
-ghost use Rattle.vt_graph.specs.Having.{HasAttribute};
 ghost use Rattle.vt_graph.specs.Room.{KeepsRoom};
+ghost use Rattle.vt_store.specs.Changing.{Makes};
 ghost use Rattle.vt_store.specs.Edits.{edit_of};
-ghost use Rattle.vt_store.specs.Inside.Assigned.{without_values};
-ghost use Rattle.vt_store.specs.Inside.Levels.{contained_in, children, level_below, levels_from, numbers, objects_inside, IsArranged, leaving, coming, links_of, touches, AddsLinksAt, CollectsLinks, value_of, values_of, IsBare, CanBury};
+ghost use Rattle.vt_store.specs.Inside.Levels.{contained_in, children, level_below, levels_from, numbers, objects_inside, IsArranged, link_on, links_of, touches, AddsLinksAt, CollectsLinks, value_of, values_of, IsBare, CanBury};
 ghost use Rattle.vt_slots.specs.Ends.{number_order};
 ghost use Rattle.vt_store.specs.Inside.Waiting.{AddsBuried, BuriesAll, HasClasses};
 
-use crate::displaced::arrange;
+use crate::displaced::{arrange, link_on};
 use crate::edit::Edit;
-use crate::references::is_containment;
+use crate::fault::StoreFault;
 use crate::relinking::drop_back;
+use crate::reverting::take_values;
 use std::alloc::Global;
-use vt_base::{List, NoMemory, ObjId, Plain, RefId, Roomy};
+use vt_asked::{is_containment, live_named};
+use vt_base::{List, NoMemory, ObjId, Plain, RefId, Roomy, Text};
 use vt_graph::{Buried, Graph};
 use vt_model::{AttributeValue, Link, Metamodel};
 use vt_slots::{EndList, Held, Side};
@@ -99,56 +102,31 @@ fn objects_inside(graph: &Graph, alloc: Global, o: ObjId) -> Result<Vec<ObjId>, 
 
 // ---- the links that touch them
 
-fn add_leaving(
+fn add_ends(
     links: &mut Vec<Link>,
+    side: Side,
     x: ObjId,
     reference: RefId,
-    targets: &[ObjId],
+    others: &[ObjId],
 ) -> Result<(), NoMemory>
-    ensures { OnOk result (links.new.items ≡ links.old.items ++ map (leaving x reference) targets.now) }
+    ensures { OnOk result (links.new.items ≡ links.old.items ++ map (link_on side x reference) others.now) }
 {
-    for target in targets {
-        links.push(Link {
-            source: x,
-            reference,
-            target: *target,
-        })?;
+    for other in others {
+        links.push(link_on(side, x, reference, *other))?;
     }
     Ok(())
 }
 
-fn add_coming(
+fn add_all_ends(
     links: &mut Vec<Link>,
+    side: Side,
     x: ObjId,
-    reference: RefId,
-    sources: &[ObjId],
+    lists: &[EndList],
 ) -> Result<(), NoMemory>
-    ensures { OnOk result (links.new.items ≡ links.old.items ++ map (coming x reference) sources.now) }
-{
-    for source in sources {
-        links.push(Link {
-            source: *source,
-            reference,
-            target: x,
-        })?;
-    }
-    Ok(())
-}
-
-fn add_outgoing(links: &mut Vec<Link>, x: ObjId, lists: &[EndList]) -> Result<(), NoMemory>
-    ensures { OnOk result (links.new.items ≡ links.old.items ++ links_of (leaving x) lists.now) }
+    ensures { OnOk result (links.new.items ≡ links.old.items ++ links_of (link_on side x) lists.now) }
 {
     for list in lists {
-        add_leaving(links, x, list.reference(), list.objects())?;
-    }
-    Ok(())
-}
-
-fn add_incoming(links: &mut Vec<Link>, x: ObjId, lists: &[EndList]) -> Result<(), NoMemory>
-    ensures { OnOk result (links.new.items ≡ links.old.items ++ links_of (coming x) lists.now) }
-{
-    for list in lists {
-        add_coming(links, x, list.reference(), list.objects())?;
+        add_ends(links, side, x, list.reference(), list.objects())?;
     }
     Ok(())
 }
@@ -157,8 +135,8 @@ fn add_incoming(links: &mut Vec<Link>, x: ObjId, lists: &[EndList]) -> Result<()
 fn add_links_at(links: &mut Vec<Link>, graph: &Graph, x: ObjId) -> Result<(), NoMemory>
     ensures { OnOk result (AddsLinksAt graph.now.model x links.old.items links.new.items) }
 {
-    add_outgoing(links, x, graph.ends(x, Side::Outgoing))?;
-    add_incoming(links, x, graph.ends(x, Side::Incoming))?;
+    add_all_ends(links, Side::Outgoing, x, graph.ends(x, Side::Outgoing))?;
+    add_all_ends(links, Side::Incoming, x, graph.ends(x, Side::Incoming))?;
     Ok(())
 }
 
@@ -255,18 +233,6 @@ fn values_inside(
 
 // ---- the steps
 
-// Takes values of live objects out.
-fn take_values(graph: &mut Graph, values: &[AttributeValue])
-    requires had { All (λ t. HasAttribute graph.old.meta graph.old.model t.object t.attribute) values.now }
-    ensures meta { graph.new.meta ≡ graph.old.meta }
-    ensures taken { graph.new.model ≡ without_values graph.old.model values.now }
-    ensures places { graph.new.places ≡ graph.old.places }
-{
-    for t in values {
-        graph.put_value(t.object, t.attribute, None);
-    }
-}
-
 // Buries an object, which then waits with the others.
 fn bury(graph: &mut Graph, x: ObjId, waiting: &mut Roomy<Buried>)
     requires bare { IsBare graph.old.model x }
@@ -290,7 +256,7 @@ fn bury_all(graph: &mut Graph, found: &[ObjId], waiting: &mut Roomy<Buried>)
 }
 
 // A live object goes with all that is in it.
-pub(crate) fn delete(graph: &mut Graph, alloc: Global, o: ObjId) -> Result<Edit, NoMemory>
+fn remove(graph: &mut Graph, alloc: Global, o: ObjId) -> Result<Edit, NoMemory>
     requires valid { IsValid graph.old.meta graph.old.model }
     requires live { IsSome (live_at graph.old.model o) }
     ensures meta { graph.new.meta ≡ graph.old.meta }
@@ -318,4 +284,18 @@ pub(crate) fn delete(graph: &mut Graph, alloc: Global, o: ObjId) -> Result<Edit,
         List::from_vec(values),
         List::from_vec(links),
     ))
+}
+
+// Makes a Delete.
+#[tactic(auto, using(crate::proofs::Deleting::Fitting::delete_refused, crate::proofs::MakesLemmas::makes_refusal, crate::proofs::Deleting::Fitting::makes_no_deletion))]
+pub(crate) fn delete(graph: &mut Graph, alloc: Global, name: &Text) -> Result<Edit, StoreFault>
+    requires sound { IsSound graph.old.meta }
+    requires valid { IsValid graph.old.meta graph.old.model }
+    ensures { Makes (change.Delete name.now) graph.old graph.new result }
+{
+    // It tells that the links fit in their room.
+    graph.meta();
+    let object = live_named(graph, name)?;
+    let edit = remove(graph, alloc, object.number)?;
+    Ok(edit)
 }

@@ -6,10 +6,11 @@ ghost use Rattle.vt_model.specs.Containing.{holder, is_inside};
 ghost use Rattle.vt_model.specs.Sound.{IsSound};
 ghost use Rattle.vt_model.specs.Valid.{IsValid};
 ghost use Rattle.vt_slots.specs.Ends.{EndList, ObjectsRise};
-ghost use Rattle.vt_store.specs.Inside.Displaced.{IsArranged, with_opposite, to_targets, from_sources, held_from, candidates, holder_in};
+ghost use Rattle.vt_store.specs.Inside.Displaced.{IsArranged, with_opposite, to_others, held_from, candidates, holder_in};
+ghost use Rattle.vt_store.specs.Inside.Levels.{link_on};
 
-use crate::references::{has_single_opposite, is_containment, is_many, link_back};
 use std::alloc::Global;
+use vt_asked::{has_single_opposite, is_containment, is_many, link_back};
 use vt_base::{NoMemory, ObjId, RefId};
 use vt_graph::Graph;
 use vt_model::{Link, Metamodel};
@@ -36,48 +37,34 @@ pub(crate) fn add_both(found: &mut Vec<Link>, meta: &Metamodel, link: Link) -> R
     Ok(())
 }
 
-fn add_to_targets(
-    found: &mut Vec<Link>,
-    meta: &Metamodel,
-    source: ObjId,
-    reference: RefId,
-    targets: &[ObjId],
-) -> Result<(), NoMemory>
-    ensures { OnOk result (found.new.items ≡ found.old.items ++ to_targets meta.now source reference targets.now) }
+// A link at an object, on either side of it.
+pub(crate) fn link_on(side: Side, o: ObjId, reference: RefId, other: ObjId) -> Link
+    ensures { result ≡ link_on side o reference other }
 {
-    for target in targets {
-        add_both(
-            found,
-            meta,
-            Link {
-                source,
-                reference,
-                target: *target,
-            },
-        )?;
+    let (source, target) = match side {
+        Side::Outgoing => (o, other),
+        Side::Incoming => (other, o),
+    };
+    Link {
+        source,
+        reference,
+        target,
     }
-    Ok(())
 }
 
-fn add_from_sources(
+// Adds the links between an object and others, with their opposites.
+fn add_others(
     found: &mut Vec<Link>,
     meta: &Metamodel,
+    side: Side,
+    o: ObjId,
     reference: RefId,
-    target: ObjId,
-    sources: &[ObjId],
+    others: &[ObjId],
 ) -> Result<(), NoMemory>
-    ensures { OnOk result (found.new.items ≡ found.old.items ++ from_sources meta.now reference target sources.now) }
+    ensures { OnOk result (found.new.items ≡ found.old.items ++ to_others side meta.now o reference others.now) }
 {
-    for source in sources {
-        add_both(
-            found,
-            meta,
-            Link {
-                source: *source,
-                reference,
-                target,
-            },
-        )?;
+    for other in others {
+        add_both(found, meta, link_on(side, o, reference, *other))?;
     }
     Ok(())
 }
@@ -91,7 +78,14 @@ fn add_held(
     ensures { OnOk result (found.new.items ≡ found.old.items ++ held_from (λ (e : EndList). e.reference) (λ e. e.objects) meta.now target list.now) }
 {
     if is_containment(meta, list.reference()) {
-        add_from_sources(found, meta, list.reference(), target, list.objects())?;
+        add_others(
+            found,
+            meta,
+            Side::Incoming,
+            target,
+            list.reference(),
+            list.objects(),
+        )?;
     }
     Ok(())
 }
@@ -123,10 +117,24 @@ fn find_candidates(
 {
     let mut found = Vec::new(alloc);
     if !is_many(meta, made.reference) {
-        add_to_targets(&mut found, meta, made.source, made.reference, targets)?;
+        add_others(
+            &mut found,
+            meta,
+            Side::Outgoing,
+            made.source,
+            made.reference,
+            targets,
+        )?;
     }
     if has_single_opposite(meta, made.reference) {
-        add_from_sources(&mut found, meta, made.reference, made.target, sources)?;
+        add_others(
+            &mut found,
+            meta,
+            Side::Incoming,
+            made.target,
+            made.reference,
+            sources,
+        )?;
     }
     if is_containment(meta, made.reference) {
         add_containers(&mut found, meta, made.target, lists)?;
@@ -172,7 +180,8 @@ pub(crate) fn stands(graph: &Graph, link: &Link) -> bool
     )
 }
 
-fn holder_in(meta: &Metamodel, lists: &[EndList]) -> Option<ObjId>
+// The first object of the first list of a containment that isn't empty.
+pub(crate) fn holder_in(meta: &Metamodel, lists: &[EndList]) -> Option<ObjId>
     ensures { result ≡ holder_in (λ (e : EndList). e.reference) (λ e. e.objects) meta.now lists.now }
 {
     for list in lists {

@@ -1,29 +1,24 @@
 //! A typed model that takes single changes, refuses each that would break it, and can take each
 //! change back.
 //!
-//! It stands on `vt_graph`, and on what `vt_model` says of changes. Read `specs/Edits.antt`, then
-//! `specs/Undoing.antt`.
+//! It stands on `vt_graph`, and on what `vt_model` says of changes. Read `specs/Edits.antt`,
+//! `specs/Undoing.antt`, then `specs/Changing.antt`.
 #![tactic(auto)]
 
 // A store, what a change did, and why it wasn't made.
-mod applying;
+mod changing;
 mod edit;
 mod fault;
-mod linkage;
-mod removal;
 mod rows;
 mod store;
-// What changes ask for, and what is done for them.
-mod asking;
+// What is done for changes.
 mod assignment;
 mod creation;
 mod deletion;
 mod displaced;
-mod naming;
-mod references;
+mod linkage;
 mod relinking;
 mod reverting;
-mod valuing;
 // What holds of every edit.
 mod laws;
 #[cfg(test)]

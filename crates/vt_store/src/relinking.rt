@@ -4,7 +4,7 @@ ghost use Rattle.vt_model.specs.Linking.{is_dropped, with_link, relinked, unlink
 ghost use Rattle.vt_model.specs.Containing.{is_circular};
 ghost use Rattle.vt_model.specs.declared.change.Refusal.{Refusal};
 ghost use Rattle.vt_store.specs.Edits.{edit_of};
-ghost use Rattle.vt_store.specs.Inside.Asking.{link_effect};
+ghost use Rattle.vt_asked.specs.Asking.{link_effect};
 ghost use Rattle.vt_store.specs.declared.fault.StoreFault.TheVariants as fault;
 ghost use Rattle.vt_model.specs.Fits.{FitsReference};
 ghost use Rattle.vt_model.specs.Sound.{IsSound};
@@ -12,14 +12,15 @@ ghost use Rattle.vt_model.specs.Valid.{IsValid};
 ghost use Rattle.vt_graph.specs.Room.{KeepsRoom};
 ghost use Rattle.vt_store.specs.Inside.Displaced.{NoneStands, links_edit, without_link, EndsLive};
 
-use crate::displaced::{add_both, arrange, displaced, is_inside, stands};
+use crate::displaced::{add_both, arrange, displaced, holder_in, is_inside, stands};
 use crate::edit::Edit;
 use crate::fault::StoreFault;
-use crate::references::{is_containment, link_back, oriented};
 use std::alloc::Global;
+use vt_asked::{is_containment, link_back, oriented};
 use vt_base::{List, NoMemory};
 use vt_graph::Graph;
 use vt_model::{Link, Metamodel, Refusal};
+use vt_slots::Side;
 
 // A link and its opposite, in order.
 #[tactic(auto, using(crate::proofs::Linking::Both::arranged_both))]
@@ -47,6 +48,7 @@ pub(crate) fn drop_back(graph: &mut Graph, gone: &[Link])
 fn add_with_back(graph: &mut Graph, link: Link) -> Result<(), NoMemory>
     requires live { EndsLive graph.old.model link }
     requires fresh { NoneStands graph.old.meta graph.old.model link }
+    requires sound { IsSound graph.old.meta }
     requires valid { IsValid graph.old.meta graph.old.model }
     ensures meta { graph.new.meta ≡ graph.old.meta }
     ensures added { OnOk result (graph.new.model ≡ record graph.old.model { links = with_link graph.old.meta graph.old.model.links link }) }
@@ -100,7 +102,14 @@ fn is_circular(graph: &Graph, link: &Link) -> bool
     requires valid { IsValid graph.now.meta graph.now.model }
     ensures { result ≡ is_circular graph.now.meta graph.now.model link.now }
 {
-    is_containment(graph.meta(), link.reference) && is_inside(graph, link.source, link.target)
+    if !is_containment(graph.meta(), link.reference) {
+        return false;
+    }
+    // Nothing is in what contains nothing, so a chain that is made from the top down takes no walks.
+    if holder_in(graph.meta(), graph.ends(link.target, Side::Outgoing)).is_none() {
+        return link.source == link.target;
+    }
+    is_inside(graph, link.source, link.target)
 }
 
 // An edit that changes nothing.

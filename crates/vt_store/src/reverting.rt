@@ -1,5 +1,5 @@
 // Taking back what a change did.
-ghost use Rattle.std.specs.Prelude.{◌≡◌, ◌<◌, ◌≤◌, ◌++◌, map, All, IsSome};
+ghost use Rattle.std.specs.Prelude.{◌≡◌, ◌<◌, ◌≤◌, ◌++◌, map, All, Contains};
 ghost use Rattle.vt_graph.specs.Having.{HasAttribute};
 ghost use Rattle.vt_graph.specs.Room.{KeepsRoom, HasRoom, HasRoomFor};
 ghost use Rattle.vt_slots.specs.declared.slot.Side.TheVariants.{Outgoing, Incoming};
@@ -30,7 +30,7 @@ fn share(value: &Value) -> Value
     }
 }
 
-// Takes values away.
+// Takes values of live objects away.
 pub(crate) fn take_values(graph: &mut Graph, values: &[AttributeValue])
     requires had { All (λ t. HasAttribute graph.old.meta graph.old.model t.object t.attribute) values.now }
     ensures meta { graph.new.meta ≡ graph.old.meta }
@@ -43,7 +43,7 @@ pub(crate) fn take_values(graph: &mut Graph, values: &[AttributeValue])
 }
 
 // Puts values back.
-pub(crate) fn put_values(graph: &mut Graph, values: &[AttributeValue])
+fn put_values(graph: &mut Graph, values: &[AttributeValue])
     requires had { All (λ t. HasAttribute graph.old.meta graph.old.model t.object t.attribute) values.now }
     ensures meta { graph.new.meta ≡ graph.old.meta }
     ensures put { graph.new.model ≡ with_values graph.old.model values.now }
@@ -91,6 +91,7 @@ fn settle(graph: &mut Graph, next: u32, created: Option<Object>, deleted: List<B
 // Adds a link for which there is room.
 fn put_link(graph: &mut Graph, link: Link)
     requires live { EndsLive graph.old.model link }
+    requires fresh { Contains graph.old.model.links link → ⊥ }
     requires out { HasRoomFor graph.old link.source Outgoing link.reference }
     requires into { HasRoomFor graph.old link.target Incoming link.reference }
     ensures meta { graph.new.meta ≡ graph.old.meta }
@@ -101,7 +102,7 @@ fn put_link(graph: &mut Graph, link: Link)
 }
 
 // Adds links for which there is room.
-pub(crate) fn put_links(graph: &mut Graph, links: &[Link])
+fn put_links(graph: &mut Graph, links: &[Link])
     requires returning { IsReturning (with_each graph.old.model links.now) graph.old.model links.now }
     requires live { All (EndsLive graph.old.model) links.now }
     requires room { HasRoom graph.old.places (with_each graph.old.model links.now) }

@@ -1,28 +1,37 @@
 -- The edit of a deletion can be taken back; and the object that is named is live.
-use Rattle.std.proofs.Common.{◌≡◌, ℕ, List, ◌++◌, refl, sym, ap, subst, ◌∙◌, eq-eqb}
-use Rattle.std.specs.Prelude.{◌==◌, Contains, filter, fold, map, IsSome, is_some}
+use Rattle.std.proofs.Common.{◌≡◌, ℕ, List, [], ◌∷◌, ◌++◌, refl, sym, ap, subst, ◌∙◌, eq-eqb, arith}
+use Rattle.std.specs.Prelude.{◌==◌, Contains, IsSome, is_some, Some, Ok, Err}
 use Rattle.std.proofs.lemmas.List.Kept.{IsStrictlySortedBy-filter}
 use Rattle.vt_base.specs.declared.numbers.ObjId.{ObjId}
 use Rattle.vt_facts.specs.Names.{is_name}
 use Rattle.vt_model.specs.Metamodel.{Metamodel}
-use Rattle.vt_model.specs.Model.{Model}
+use Rattle.vt_model.specs.Model.{Model, never_existed, was_deleted}
 use Rattle.vt_model.specs.Containing.{is_inside}
-use Rattle.vt_model.specs.Deleting.{with_gone, deleted}
+use Rattle.vt_model.specs.Deleting.{deleted}
+use Rattle.vt_facts.specs.Firsts.{first_of}
+use Rattle.vt_model.specs.Effect.{effect}
+use Rattle.vt_model.specs.Sound.{IsSound}
 use Rattle.vt_model.specs.Valid.{object_order, IsValid}
+use Rattle.vt_model.specs.declared.change.Change.{Change}
+use Rattle.vt_model.specs.declared.change.Change.TheVariants.{Delete}
+use Rattle.vt_model.specs.declared.change.Refusal.{Refusal}
+use Rattle.vt_model.specs.declared.change.Refusal.TheVariants.{UnknownObject, Gone}
 use Rattle.vt_model.specs.declared.model.Object.{Object}
 use Rattle.vt_facts.proofs.MemberLemmas.{Contains-map, Contains-from_filter, Contains-find, find-some}
 use Rattle.vt_graph.specs.Held.{Held}
 use Rattle.vt_graph.specs.Asked.{live_at, gone_at}
 use Rattle.vt_graph.specs.Room.{KeepsRoom, HasRoom}
-use Rattle.vt_store.specs.declared.naming.Named.{Named}
+use Rattle.vt_asked.specs.declared.naming.Named.{Named}
 use Rattle.vt_store.specs.Edits.{edit_of}
-use Rattle.vt_store.specs.Undoing.{HeldEdit, Fits}
+use Rattle.vt_store.specs.Undoing.{HeldEdit}
+use Rattle.vt_store.specs.Changing.{Makes}
+use Rattle.vt_store.specs.declared.fault.StoreFault.{StoreFault}
+use Rattle.vt_store.specs.declared.fault.StoreFault.TheVariants.{NoMemory}
 use Rattle.vt_store.specs.Inside.Kept.{gone_of}
 use Rattle.vt_store.specs.Inside.Levels.{objects_inside}
-use Rattle.vt_store.specs.Inside.Named.{IsNamed}
+use Rattle.vt_asked.specs.Named.{IsNamed}
 use Rattle.vt_store.specs.Inside.Waiting.{HasClasses}
-use Rattle.vt_store.proofs.CreateLemmas.{room_kept}
-use Rattle.vt_store.proofs.FitLemmas.{fits_made}
+use Rattle.vt_store.proofs.MakesLemmas.{room_kept, makes_nothing, makes_made}
 use Rattle.vt_store.proofs.Deleting.Buried.{object_at-live}
 use Rattle.vt_store.proofs.Deleting.Edit.{Contains-with_gone, edit_of_deleted}
 
@@ -37,20 +46,21 @@ gone-inside meta g o valid x there =
 module _ (old new : Held) (e : HeldEdit) (o : ObjId) (valid : IsValid old.meta old.model) (made : new.model ≡ deleted old.meta old.model o)
     (is : e.edit ≡ edit_of old.model (deleted old.meta old.model o)) where
   -- the edit is what changed
-  pub deleted_edit : e.edit ≡ edit_of old.model new.model
+  deleted_edit : e.edit ≡ edit_of old.model new.model
   deleted_edit = is ∙ ap (edit_of old.model) (sym made)
 
-  -- and it fits
-  pub deleted_fits : IsValid new.meta new.model → HasRoom old.places old.model → new.meta ≡ old.meta → e.meta ≡ old.meta
-      → HasClasses new.places e.edit.live.removed → HasClasses e.waiting e.edit.live.removed → KeepsRoom old.places (e.waiting ++ new.places) → Fits e new
-  deleted_fits still has meta of kept waits room = fits_made e old new (record {
+  -- so the deletion is made
+  pub makes_deleted : (name : List ℕ) → IsSound old.meta → HasRoom old.places old.model → effect old.meta old.model (Delete name) ≡ Ok (deleted old.meta old.model o)
+      → new.meta ≡ old.meta → e.meta ≡ old.meta → HasClasses new.places e.edit.live.removed → HasClasses e.waiting e.edit.live.removed
+      → KeepsRoom old.places (e.waiting ++ new.places) → Makes (Delete name) old new (Ok e)
+  makes_deleted name sound has done meta of kept waits room = makes_made (Delete name) old new e tt sound valid has meta (done ∙ ap Ok (sym made)) (record {
     of = of ∙ sym meta;
     is = deleted_edit;
     gone = λ x went. subst (λ g. IsSome (gone_at g x.number)) (sym made) (gone-inside old.meta old.model o valid x (subst (λ xs. Contains xs x) removed went));
     kept = kept;
     waits = waits;
     room = room_kept old.model old.places (e.waiting ++ new.places) room;
-  }) meta valid still has
+  })
     where
       removed : e.edit.live.removed ≡ objects_inside old.meta old.model o
       removed = ap (λ d. d.live.removed) (is ∙ edit_of_deleted old.meta old.model o valid)
@@ -60,3 +70,17 @@ pub named_live : (meta : Metamodel) (g : Model) → IsValid meta g → (name : L
 named_live meta g valid name o named =
     let there = Contains-find (λ x. is_name x.name name) g.live (record { number = o.number; name = name; class = o.class }) named in
     ap is_some (object_at-live g valid.objects_rise (record { number = o.number; name = name; class = o.class }) there.0)
+
+-- ---- the change
+
+-- memory ran out
+pub makes_no_deletion : (change : Change) (old new : Held) (f : StoreFault) → f ≡ NoMemory → new ≡ old → Makes change old new (Err f)
+makes_no_deletion change old new f is same = subst (λ s. Makes change old s (Err f)) (sym same)
+    (makes_nothing change old old f is refl refl (record { room = λ o side r. omega arith; classes = λ o c is. is }))
+
+module _ (meta : Metamodel) (g : Model) (name : List ℕ) where
+  pub delete_refused : (why : Refusal) → first_of ((never_existed g name, UnknownObject) ∷ (was_deleted g name, Gone) ∷ []) ≡ Some why → effect meta g (Delete name) ≡ Err why
+  delete_refused why some = rw some refl
+
+  pub delete_made : (o : Named) → IsNamed g name o → effect meta g (Delete name) ≡ Ok (deleted meta g o.number)
+  delete_made o named = rw named refl

@@ -1,14 +1,16 @@
 -- The link that a change makes, and its opposite: neither stands before, and nothing that goes is one of them.
-use Rattle.std.proofs.Common.{◌≡◌, refl, sym, ap, subst, true, false, inl, inr}
+use Rattle.std.proofs.Common.{◌≡◌, List, refl, sym, ap, subst, true, false, inl, inr}
 use Rattle.std.specs.Prelude.{Contains, Some}
+use Rattle.std.specs.BTreeSet.{insert_key}
 use Rattle.std.proofs.lemmas.List.Elements.{All-contains}
 use Rattle.vt_model.specs.Metamodel.{Metamodel}
 use Rattle.vt_model.specs.Model.{Model}
-use Rattle.vt_model.specs.Linking.{is_link, stands, link_back, oriented, relinked, linked}
+use Rattle.vt_model.specs.Linking.{link_order, is_link, stands, link_back, oriented, relinked, linked}
 use Rattle.vt_model.specs.Fits.{FitsReference}
 use Rattle.vt_model.specs.Sound.{IsSound}
 use Rattle.vt_model.specs.Valid.{IsValid, HasItsOpposite}
 use Rattle.vt_model.specs.declared.model.Link.{Link}
+use Rattle.vt_facts.proofs.MemberLemmas.{Contains-insert_key_cases}
 use Rattle.vt_model.proofs.Valid.Backs.{oriented-either, IsBack-link_back, FitsReference-link_back}
 use Rattle.vt_model.proofs.Valid.Dropped.{Comes}
 use Rattle.vt_store.specs.Inside.Displaced.{NoneStands}
@@ -25,6 +27,14 @@ link_back_back meta sound link back at = (IsBack-link_back meta sound link back 
 -- and differs from it
 pub link_back_differs : (meta : Metamodel) → IsSound meta → (link back : Link) → link_back meta link ≡ Some back → link ≡ back → ⊥
 link_back_differs meta sound link back at same = (IsBack-link_back meta sound link back at).differs (sym (ap (λ l. l.reference) same))
+
+-- where neither stands, the opposite doesn't stand once the link came
+pub opposite_fresh : (meta : Metamodel) → IsSound meta → (g : Model) (link back : Link) → NoneStands meta g link → link_back meta link ≡ Some back
+    → (links : List Link) → links ≡ insert_key link_order g.links link → Contains links back → ⊥
+opposite_fresh meta sound g link back none at links is there = elim (Contains-insert_key_cases link_order link g.links back (subst (λ ls. Contains ls back) is there)) [
+  | inl old ↦ none.opposite back at old
+  | inr same ↦ link_back_differs meta sound link back at same
+]
 
 module _ (meta : Metamodel) (sound : IsSound meta) (g : Model) (valid : IsValid meta g) where
   -- ---- what stands

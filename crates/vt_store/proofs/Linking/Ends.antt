@@ -1,23 +1,24 @@
 -- The links at an object: what is listed at its ends stands, and what stands is listed there.
-use Rattle.std.proofs.Common.{◌≡◌, ℕ, List, [], ◌∷◌, map, refl, sym, ap, ap₂, subst, ◌∙◌, Bool, true, false, cond, inl, inr, Option, Some, None, Result, length, arith}
+use Rattle.std.proofs.Common.{◌≡◌, ℕ, zero, suc, ◌<◌, Ok, Err, List, [], ◌∷◌, map, refl, sym, ap, ap₂, subst, ◌∙◌, Bool, true, false, cond, inl, inr, Option, Some, None, Result, length, arith}
 use Rattle.std.specs.Prelude.{◌==◌, ◌&&◌, ◌||◌, filter, find, Contains, option_map, unwrap_or}
-use Rattle.std.specs.List.{list_any}
+use Rattle.std.specs.List.{AllByRecursion, list_any}
 use Rattle.std.specs.List.Sorted.{IsStrictlySortedBy, IsSearchInRange, IsBinarySearchResult}
 use Rattle.std.specs.Result.{is_ok}
-use Rattle.std.specs.Ordering.{nat_cmp, is_eq}
+use Rattle.std.specs.Ordering.{nat_cmp}
 use Rattle.std.specs.declared.cmp.Ordering.TheVariants.{Equal}
 use Rattle.std.proofs.lemmas.Bool.{and_parts, and_from, eqb-true, eq-eqb, ne_eqb, cases_eq}
-use Rattle.std.proofs.lemmas.Bool.Decides.{nat_tests}
 use Rattle.std.proofs.lemmas.Cmp.{on_total, nat_cmp_total, tied_itself}
 use Rattle.vt_base.specs.declared.numbers.ObjId.{ObjId}
 use Rattle.vt_base.specs.declared.numbers.RefId.{RefId}
-use Rattle.vt_base.proofs.RowsLemmas.{has-searched}
 use Rattle.vt_model.specs.Metamodel.{Metamodel}
 use Rattle.vt_model.specs.Model.{Model}
 use Rattle.vt_model.specs.Linking.{link_back, is_link, stands}
 use Rattle.vt_model.specs.declared.model.Link.{Link}
 use Rattle.vt_facts.proofs.MemberLemmas.{Contains-head, Contains-behind, Contains-nil, Contains-cons_cases, Contains-filter, Contains-from_filter, Contains-map, Contains-find, find-some, Contains-from_map}
 use Rattle.vt_model.proofs.Valid.Dropped.{Comes}
+use Rattle.vt_slots.specs.Inside.Place.{StandsAt, GoesAt, IsPlace}
+use Rattle.vt_slots.proofs.PlaceLemmas.{placed}
+use Rattle.vt_slots.proofs.EndsLemmas.{object_number}
 use Rattle.vt_store.specs.Inside.Displaced.{targets_of, sources_of, beside, with_opposite}
 use Rattle.vt_facts.proofs.RisingLemmas.{tied_is}
 use Rattle.vt_graph.proofs.Linked.Stored.{same_ends}
@@ -114,15 +115,33 @@ module _ (g : Model) (link : Link) where
             | false ↦ by ls
           ]
 
+-- ---- a search among objects
+
+module _ (k : ℕ) where
+  -- none is the one whose number is below those of all
+  any_above : (xs : List ObjId) → AllByRecursion (λ y. k < y.0) xs → list_any (λ t. k == t.0) xs ≡ false
+  any_above [] h = refl
+  any_above (x ∷ xs) h = ap (λ b. b || list_any (λ t. k == t.0) xs) (ne_eqb k x.0 (λ (e : k ≡ x.0). let no : ⊥ = omega (arith, h.0, e) in no)) ∙ any_above xs h.1
+
+  -- one is where a search finds it, and none where it finds where one would go
+  any_stands : (xs : List ObjId) (i : ℕ) → StandsAt object_number k xs i → list_any (λ t. k == t.0) xs ≡ true
+  any_stands [] i h = absurd h
+  any_stands (x ∷ xs) zero h = ap (λ b. b || list_any (λ t. k == t.0) xs) (eq-eqb k x.0 (sym h.0))
+  any_stands (x ∷ xs) (suc i) h = ap (λ b. b || list_any (λ t. k == t.0) xs) (ne_eqb k x.0 (λ (e : k ≡ x.0). let no : ⊥ = omega (arith, h.0, e) in no)) ∙ any_stands xs i h.1
+
+  any_goes : (xs : List ObjId) (i : ℕ) → GoesAt object_number k xs i → list_any (λ t. k == t.0) xs ≡ false
+  any_goes [] i h = refl
+  any_goes (x ∷ xs) zero h = any_above (x ∷ xs) h
+  any_goes (x ∷ xs) (suc i) h = ap (λ b. b || list_any (λ t. k == t.0) xs) (ne_eqb k x.0 (λ (e : k ≡ x.0). let no : ⊥ = omega (arith, h.0, e) in no)) ∙ any_goes xs i h.1
+
 -- a binary search of objects that rise finds one exactly where it is listed
 pub listed_searched : (objects : List ObjId) (o : ObjId) (r : Result ℕ ℕ) → IsStrictlySortedBy (λ a b. nat_cmp a.0 b.0) objects → IsSearchInRange r (length objects)
     → IsBinarySearchResult (λ t. nat_cmp t.0 o.0) objects r → is_ok r ≡ list_any (λ t. o.0 == t.0) objects
-listed_searched objects o r rise bound found =
-    has-searched (λ a b. nat_cmp a.0 b.0) (on_total (λ a. a.0) nat_cmp_total) objects o r rise bound found
-    ∙ (λ i. list_any (λ t. same o.0 t.0 i) objects)
+listed_searched objects o r rise bound found = by r (placed object_number objects o.0 r rise bound found)
   where
-    same : (n m : ℕ) → is_eq (nat_cmp n m) ≡ (n == m)
-    same n m = grind (arith, nat_tests)
+    by : (r : Result ℕ ℕ) → IsPlace object_number o.0 objects r → is_ok r ≡ list_any (λ t. o.0 == t.0) objects
+    by (Ok i) at = sym (any_stands o.0 objects i at)
+    by (Err i) at = sym (any_goes o.0 objects i at)
 
 -- ---- the ends that lists have, one for each reference
 

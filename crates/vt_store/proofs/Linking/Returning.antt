@@ -119,6 +119,9 @@ module _ (whole now : Model) (links : List Link) (i : ℕ) (d : Link) (inside : 
   is_next : IsReturning whole now (next ∷ drop (i + 1) links)
   is_next = subst (IsReturning whole now) (drop_more links i d inside) is
 
+  pub returning_fresh_at : Contains now.links (get_or links i d) → ⊥
+  returning_fresh_at = is_next.fresh next (Contains-head next (drop (i + 1) links))
+
   pub returning_target_at : length (targets_of now (get_or links i d).source (get_or links i d).reference) < length (targets_of whole (get_or links i d).source (get_or links i d).reference)
   returning_target_at = returning_target whole now next (drop (i + 1) links) is_next
 

@@ -34,7 +34,8 @@ use Rattle.vt_store.proofs.EditLemmas.{Contains-without, Contains-from_without}
 use Rattle.vt_store.proofs.NetLemmas.{Contains-one, tells_apart, stood_or_came, kept_stood}
 use Rattle.vt_store.proofs.SameLemmas.{Decides-same_object, Decides-same_gone, Decides-same_value, Decides-same_link}
 use Rattle.vt_store.proofs.Linking.Lists.{without-none}
-use Rattle.vt_store.proofs.Linking.Live.{live_at_there, live_with_each, ends_live_same, ends_live_fits}
+use Rattle.vt_asked.proofs.LiveLemmas.{live_at_there}
+use Rattle.vt_store.proofs.Linking.Live.{live_with_each, ends_live_same, ends_live_fits}
 use Rattle.vt_store.proofs.Reverted.Objects.{one_object}
 use Rattle.vt_store.proofs.Reverted.Raised.{places_with, room_with}
 use Rattle.vt_store.proofs.Reverted.Whole.{IsKept, before, live_changed, gone_changed, values_changed, links_changed, deleted_rise, are_gone, left_values, went, settled_then, values_back, reverted_is}

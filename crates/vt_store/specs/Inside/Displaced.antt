@@ -10,7 +10,9 @@ use Rattle.vt_model.specs.Model.{Model}
 use Rattle.vt_model.specs.Linking.{is_many, is_containment, has_single_opposite, link_order, is_link, link_back}
 use Rattle.vt_model.specs.declared.model.Object.{Object}
 use Rattle.vt_model.specs.declared.model.Link.{Link}
+use Rattle.vt_slots.specs.declared.slot.Side.{Side}
 use Rattle.vt_store.specs.Edits.{ListChange, Edit}
+use Rattle.vt_store.specs.Inside.Levels.{link_on}
 
 -- ---- the other ends of the links at an object
 
@@ -37,6 +39,10 @@ to_targets meta source r targets = flat_map (λ t. with_opposite meta (record { 
 -- the links from others to an object
 abbrev pub from_sources : Metamodel → RefId → ObjId → List ObjId → List Link
 from_sources meta r target sources = flat_map (λ s. with_opposite meta (record { source = s; reference = r; target = target })) sources
+
+-- the links between an object and others, on either side of it
+abbrev pub to_others : Side → Metamodel → ObjId → RefId → List ObjId → List Link
+to_others side meta o r others = flat_map (λ x. with_opposite meta (link_on side o r x)) others
 
 -- neither the link nor its opposite stands
 pub record NoneStands (meta : Metamodel) (g : Model) (link : Link) : Type 0 where

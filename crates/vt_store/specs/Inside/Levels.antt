@@ -18,6 +18,8 @@ use Rattle.vt_model.specs.declared.model.Object.{Object}
 use Rattle.vt_model.specs.declared.model.AttributeValue.{AttributeValue}
 use Rattle.vt_model.specs.declared.model.Link.{Link}
 use Rattle.vt_slots.specs.Ends.{EndList, number_order}
+use Rattle.vt_slots.specs.declared.slot.Side.{Side}
+use Rattle.vt_slots.specs.declared.slot.Side.TheVariants.{Outgoing, Incoming}
 use Rattle.vt_slots.specs.declared.values.Held.{Held}
 
 -- ---- what is in an object
@@ -73,6 +75,11 @@ leaving x r y = record { source = x; reference = r; target = y }
 
 abbrev pub coming : ObjId → RefId → ObjId → Link
 coming x r y = record { source = y; reference = r; target = x }
+
+-- a link at an object, on either side of it
+abbrev pub link_on : Side → ObjId → RefId → ObjId → Link
+link_on Outgoing x r y = leaving x r y
+link_on Incoming x r y = coming x r y
 
 -- the links that lists of ends stand for, each made of a reference and an object
 abbrev pub links_of : (RefId → ObjId → Link) → List EndList → List Link

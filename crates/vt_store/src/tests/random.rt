@@ -148,16 +148,15 @@ fn note(
 // ---- one change
 
 // The change on the store.
-#[tactic(auto, using(crate::proofs::BackLemmas::leads_back))]
+#[tactic(auto, using(crate::proofs::BackLemmas::leads_back, crate::proofs::BackLemmas::stays_back))]
 fn made(alloc: Global, store: &mut Store, change: &Change) -> Result<Edit, StoreFault>
     ensures back { IfOk result (λ e. LeadsBack e store.old store.new) }
     ensures stays { OnErr result (Stays store.old store.new) }
 {
-    // It tells that the model is valid.
+    // They tell that the model is valid, and that what is given can be held.
     store.meta();
-    let made = store.apply(alloc, change);
-    store.meta();
-    made
+    change.gives_storable();
+    store.apply(alloc, change)
 }
 
 // A refusal is an answer; want of memory is none.

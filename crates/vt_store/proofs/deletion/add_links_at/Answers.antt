@@ -11,7 +11,7 @@ returns c =
     let into : List Link = links_of (coming c.args.x) c.ends-2.result.now in
     record {
       own = out ++ into;
-      added = c.in_ok-add_incoming.ensures ∙ ap (λ l. l ++ into) c.in_ok-add_outgoing.ensures ∙ append_assoc c.args.links.now.items out into;
+      added = c.in_ok-add_all_ends-2.ensures ∙ ap (λ l. l ++ into) c.in_ok-add_all_ends.ensures ∙ append_assoc c.args.links.now.items out into;
       are = AreLinksAt-sides c.args.graph.now.model c.args.x (λ (e : EndList). e.reference) (λ (e : EndList). e.objects) c.ends.result.now c.ends-2.result.now
           c.ends.ensures.references_rise c.ends-2.ensures.references_rise c.ends.ensures.objects c.ends-2.ensures.objects;
     }

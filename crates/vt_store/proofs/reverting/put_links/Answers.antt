@@ -4,12 +4,19 @@ use Rattle.vt_slots.specs.declared.slot.Side.TheVariants.{Outgoing, Incoming}
 use Rattle.vt_store.specs.Inside.Displaced.{with_each}
 use Rattle.vt_store.proofs.Linking.Anew.{KeepsRoom-then}
 use Rattle.vt_store.proofs.Linking.Live.{ends_live_with_each}
-use Rattle.vt_store.proofs.Linking.Returning.{returning_target_at, returning_source_at, returning_step_at}
+use Rattle.vt_store.proofs.Linking.Returning.{returning_fresh_at, returning_target_at, returning_source_at, returning_step_at}
 use Rattle.vt_store.proofs.reverting.put_links.Goals as goal
 
 -- past the end of the links
 nowhere : Link
 nowhere = record { source = record { 0 = 0 }; reference = record { 0 = 0 }; target = record { 0 = 0 } }
+
+-- the next link doesn't stand yet
+pub put_link-requires-clause-fresh : goal.put_link-requires-clause-fresh
+unfolding nowhere
+put_link-requires-clause-fresh c =
+    let whole = with_each c.args.graph.now.model c.args.links.now in
+    returning_fresh_at whole c.loop-link.graph.model c.args.links.now c.loop-link.link-index nowhere c.loop-link-test.true c.loop-link.invariant.returning
 
 -- at its source there are fewer links yet than the room that was kept for all
 pub put_link-requires-clause-out : goal.put_link-requires-clause-out

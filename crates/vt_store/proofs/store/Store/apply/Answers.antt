@@ -1,9 +1,9 @@
-use Rattle.std.proofs.Common.{◌≡◌, Err, sym, subst}
-use Rattle.vt_model.specs.Effect.{effect}
-use Rattle.vt_model.specs.declared.change.Change.{Change}
+use Rattle.vt_store.proofs.MakesLemmas.{valid_still, makes_seen}
 use Rattle.vt_store.proofs.store.Store.apply.Goals as goal
 
--- the change is that one
-pub returns-in-Set-clause-refused : goal.returns-in-Set-clause-refused
-returns-in-Set-clause-refused c = λ why is.
-    subst (λ (change : Change). effect c.args.self.now.meta c.args.self.now.model change ≡ Err why) (sym c.in-Set.is) (c.set.ensures.refused why is)
+-- the graph does what the store is to do
+pub invariant_of-self : goal.invariant_of-self
+invariant_of-self c = valid_still _ _ _ _ c.gives_storable.ensures c.make.ensures c.self.invariant
+
+pub returns : goal.returns
+returns c = makes_seen _ _ _ _ _ c.self.view_is c.make.ensures
