@@ -5,8 +5,6 @@
 mod changes;
 mod scene;
 
-ghost use Rattle.vt_model.specs.Sound.{IsSound};
-
 use changes::{create, delete, link, set};
 use scene::{METAMODEL, Scene};
 use std::alloc::Global;
@@ -20,9 +18,7 @@ use vt_store::{Store, StoreFault};
 const MOST_BOOKS: usize = 800_000;
 
 // All changes of so many books, and the number that the next object gets then.
-fn run(alloc: Global, meta: &Metamodel, books: usize) -> Result<u32, StoreFault>
-    requires sound { IsSound meta.now }
-{
+fn run(alloc: Global, meta: &Metamodel, books: usize) -> Result<u32, StoreFault> {
     let scene = Scene::new(alloc, books)?;
     let mut store = Store::new(alloc, meta)?;
     create(alloc, &mut store, &scene.shelves, &scene.shelf)?;

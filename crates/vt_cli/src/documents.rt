@@ -33,7 +33,6 @@ fn model(alloc: Global, meta: &Metamodel, bytes: &[u8]) -> Result<Result<Store, 
         model_of meta.now bytes.now ≡ Err outcome)) }
     ensures suits { IfOk result (λ judged. IfErr judged (λ outcome. IsOfFiles outcome.ending)) }
 {
-    meta.is_sound();
     match read_store(alloc, meta, bytes) {
         Ok(store) => Ok(Ok(store)),
         Err(fault) => Ok(Err(refusals::model(alloc, fault)?)),

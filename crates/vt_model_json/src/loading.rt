@@ -249,8 +249,6 @@ fn transact(alloc: Global, meta: &Metamodel, changes: &[Change]) -> Result<Store
     ensures refused { IfErr result (λ fault.
         IsStopOf fault (transaction meta.now empty_model changes.now)) }
 {
-    // A metamodel tells that it is sound.
-    meta.is_sound();
     let mut store = Store::new(alloc, meta)?;
     apply_all(&mut store, alloc, changes)?;
     Ok(store)

@@ -45,9 +45,10 @@ impl Store {
     /// The empty model of a metamodel. Its next number is 0.
     #[tactic(auto, using(crate::proofs::StoreLemmas::valid_empty))]
     pub fn new(alloc: Global, meta: &Metamodel) -> Result<Store, NoMemory>
-        requires sound { IsSound meta.now }
         ensures { IfOk result (λ s. s ≡ record { meta = meta.now; model = empty_model; places = [] }) }
     {
+        // A metamodel tells that it is sound, as a store's has to be.
+        meta.is_sound();
         let graph = Graph::new(alloc, meta)?;
         Ok(Store { graph })
     }
