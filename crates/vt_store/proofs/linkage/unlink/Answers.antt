@@ -10,7 +10,7 @@ pub returns-in-Ok : goal.returns-in-Ok
 returns-in-Ok c =
     let asked = c.in_ok-asked.asked in
     makes_unlinked (change.Unlink c.args.name.now c.args.reference.now c.args.target.now) tt c.args.graph.now c.unmake_link.new.graph c.requires.sound c.requires.valid c.meta.ensures.room
-    c.unmake_link.ensures.meta c.unmake_link.ensures.room asked c.in-Ok.edit (unlink_made _ _ _ _ _ asked c.in_ok-asked.ensures.asked c.in_ok-asked.ensures.passes)
+    c.unmake_link.ensures.meta c.unmake_link.ensures.room asked c.in-Ok.edit (unlink_made c.args.graph.now.meta c.args.graph.now.model c.args.name.now c.args.reference.now c.args.target.now asked c.in_ok-asked.ensures.asked c.in_ok-asked.ensures.passes)
     c.in-Ok.ensures.made c.in-Ok.ensures.edit
 
 pub returns-in-Err : goal.returns-in-Err
