@@ -7,4 +7,4 @@ use Rattle.vt_store.proofs.store.Store.new.Goals as goal
 
 -- the empty model is valid
 pub invariant_of-result : goal.invariant_of-result
-invariant_of-result c = subst (λ (s : Held). IsSound s.meta × IsValid s.meta s.model) (sym c.in_ok-graph.ensures) (c.requires.sound, valid_empty c.args.meta.now)
+invariant_of-result c = subst (λ (s : Held). IsSound s.meta × IsValid s.meta s.model) (sym c.in_ok-graph.ensures) (c.is_sound.ensures, valid_empty c.args.meta.now)
