@@ -117,9 +117,9 @@ formed_commanded verb.Activations rest y h = of_one IsFormed identifier line.Act
 formed_commanded verb.Group rest y h = of_three IsFormed identifier (number 15) something line.Group rest y h
     (λ x z q u v w k l m. (formed_identifier u x k, bounded 15 v z l, some w q m))
 
-either : (t : Bool) (dump y : Line) (o : Option Line) → (if t then Some dump else o) ≡ Some y → (dump ≡ y) ⊎ (o ≡ Some y)
-either true dump y o e = inl (cc e)
-either false dump y o e = inr e
+either : (t : Bool) (x y : Line) (o : Option Line) → (if t then Some x else o) ≡ Some y → (x ≡ y) ⊎ (o ≡ Some y)
+either true x y o e = inl (cc e)
+either false x y o e = inr e
 
 formed_command : (bytes : List ℕ) (y : Line) → command_of bytes ≡ Some y → IsFormed y
 unfolding command_of
@@ -144,7 +144,7 @@ formed_all : (ws : List Numbered) (lines : List Line) → commands_of ws ≡ Ok 
 formed_all [] lines e = let same : [] ≡ lines = cc e in subst (λ l. AllByRecursion IsFormed l × (length l ≡ 0)) same (tt, refl)
 formed_all (w ∷ ws) lines e =
     let parts = followed_parts w.number (command_of w.bytes) (commands_of ws) lines e in
-    let rest = formed_all ws parts.1 parts.2 in
+    let rest = formed_all ws parts.1 parts.3 in
     subst (λ l. AllByRecursion IsFormed l × (length l ≡ length (w ∷ ws))) parts.4
     ((formed_command w.bytes parts.0 parts.2, rest.0), omega (arith, rest.1))
 

@@ -96,6 +96,13 @@ quote_within front before (a ∷ after) due h e some = behind front before (a �
 pub feed_within : (front before after : List ℕ) (due : Option (List ℕ)) → with_front front (unquoted before) ≡ due → before ≡ encode_utf8 10 ++ after → due ≡ None
 feed_within front before after due h e = behind front before after 10 due (omega arith) h e
 
+-- the only other byte that does not stand for itself
+pub no_plain : (front before after : List ℕ) (c : ℕ) (due : Option (List ℕ)) → with_front front (unquoted before) ≡ due → before ≡ encode_utf8 c ++ after
+    → is_plain c ≡ false → c ≢ 34 → c ≢ 92 → due ≡ None
+no_plain front before after c due h e bad quote slash =
+    let same : c ≡ 10 = grind (arith, nat_tests) in
+    feed_within front before after due h (e ∙ ap (λ d. encode_utf8 d ++ after) same)
+
 low_escape : (c m : ℕ) → escaped c ≡ Some m → (c < 128) × (m < 128)
 low_escape c m e = grind (arith, nat_tests)
 

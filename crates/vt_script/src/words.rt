@@ -1,5 +1,5 @@
 // The words of a line: names, numbers, policies.
-ghost use Rattle.std.specs.Prelude.{◌≡◌, ◌≤◌, option_map, IfSome};
+ghost use Rattle.std.specs.Prelude.{◌≡◌, ◌≢◌, ◌<◌, ◌≤◌, ◌∷◌, List, ℕ, option_map, IfSome, MatchOption};
 ghost use Rattle.std.specs.List.{list_all};
 ghost use Rattle.vt_json.specs.Names.{is_name, continues_object_name};
 ghost use Rattle.vt_text.specs.Lexicon.{begins_word, goes_on};
@@ -17,6 +17,15 @@ pub(crate) fn split(line: &str) -> Option<(&str, &str)>
     ensures { option_map (λ parts. (parts.0.now, parts.1.now)) result ≡ cut line.now }
 {
     line.split_once(' ')
+}
+
+/// What stands behind a character of ASCII, where the line begins with it.
+pub(crate) fn behind(line: &str, first: char) -> Option<&str>
+    requires { first < 128 }
+    ensures { MatchOption result ((rest : List ℕ) → line.now ≢ first ∷ rest)
+        (λ rest. line.now ≡ first ∷ rest.now) }
+{
+    line.strip_prefix(first)
 }
 
 fn begins(byte: u8) -> bool
