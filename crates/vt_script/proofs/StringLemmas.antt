@@ -96,11 +96,17 @@ quote_within front before (a ∷ after) due h e some = behind front before (a �
 pub feed_within : (front before after : List ℕ) (due : Option (List ℕ)) → with_front front (unquoted before) ≡ due → before ≡ encode_utf8 10 ++ after → due ≡ None
 feed_within front before after due h e = behind front before after 10 due (omega arith) h e
 
+the_third : (a b d : Bool) → not (a || b || d) ≡ false → a ≡ false → b ≡ false → d ≡ true
+the_third true b d e f g = absurd (cc f)
+the_third false true d e f g = absurd (cc g)
+the_third false false true e f g = refl
+the_third false false false e f g = absurd (cc e)
+
 -- the only other byte that does not stand for itself
 pub no_plain : (front before after : List ℕ) (c : ℕ) (due : Option (List ℕ)) → with_front front (unquoted before) ≡ due → before ≡ encode_utf8 c ++ after
     → is_plain c ≡ false → c ≢ 34 → c ≢ 92 → due ≡ None
 no_plain front before after c due h e bad quote slash =
-    let same : c ≡ 10 = grind (arith, nat_tests) in
+    let same : c ≡ 10 = equal_numbers c 10 (the_third (c == 34) (c == 92) (c == 10) bad (ne_eqb c 34 quote) (ne_eqb c 92 slash)) in
     feed_within front before after due h (e ∙ ap (λ d. encode_utf8 d ++ after) same)
 
 low_escape : (c m : ℕ) → escaped c ≡ Some m → (c < 128) × (m < 128)

@@ -45,15 +45,15 @@ signed most [] e = refl
 signed most (b ∷ bs) e = rw e refl
 
 -- what is parsed, where it is at most this, and where it is more
-pub parsed_within : (most : ℕ) (word : List ℕ) {E : Type 0} (n : ℕ) → ParsesUnsigned {E = E} 64 10 word (Ok n) → get_or word 0 0 ≢ 43 → n ≤ most → number most word ≡ Some n
-parsed_within most word {E = E} n h plain small =
-    let read = parse_plain own {E = E} 64 word (Ok n) h plain in
+pub parsed_within : (most : ℕ) (word : List ℕ) (n : ℕ) → ParsesUnsigned {E = ℕ} 64 10 word (Ok n) → get_or word 0 0 ≢ 43 → n ≤ most → number most word ≡ Some n
+parsed_within most word n h plain small =
+    let read = parse_plain own {E = ℕ} 64 word (Ok n) h plain in
     let test : nat_le (number_of word) most ≡ true = grind (arith, nat_tests, read.1) in
     rw (numeral_is word read.0.0 read.0.1) (rw test (ap Some (sym read.1)))
 
-pub parsed_above : (most : ℕ) (word : List ℕ) {E : Type 0} (n : ℕ) → ParsesUnsigned {E = E} 64 10 word (Ok n) → get_or word 0 0 ≢ 43 → most < n → number most word ≡ None
-parsed_above most word {E = E} n h plain great =
-    let read = parse_plain own {E = E} 64 word (Ok n) h plain in
+pub parsed_above : (most : ℕ) (word : List ℕ) (n : ℕ) → ParsesUnsigned {E = ℕ} 64 10 word (Ok n) → get_or word 0 0 ≢ 43 → most < n → number most word ≡ None
+parsed_above most word n h plain great =
+    let read = parse_plain own {E = ℕ} 64 word (Ok n) h plain in
     let test : nat_le (number_of word) most ≡ false = grind (arith, nat_tests, read.1) in
     rw (numeral_is word read.0.0 read.0.1) (rw test refl)
 

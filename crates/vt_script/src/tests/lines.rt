@@ -61,9 +61,10 @@ fn lines_are_skipped_counted_and_refused(rt: HostRuntime) -> Result<(), Fail> {
 
 #[test]
 fn only_text_is_looked_into(rt: HostRuntime) -> Result<(), Fail> {
-    for bytes in [&b"\xff"[..], b"x\n\xff", b"dump\n// \xc3", b"dump\n\xed\xa0\x80\nx"] {
-        assert_eq!(rt; outcome(rt.alloc(), bytes)?.as_str(), "NotText 1");
-    }
+    assert_eq!(rt; outcome(rt.alloc(), b"\xff")?.as_str(), "NotText 1");
+    assert_eq!(rt; outcome(rt.alloc(), b"x\n\xff")?.as_str(), "NotText 1");
+    assert_eq!(rt; outcome(rt.alloc(), b"dump\n// \xc3")?.as_str(), "NotText 1");
+    assert_eq!(rt; outcome(rt.alloc(), b"dump\n\xed\xa0\x80\nx")?.as_str(), "NotText 1");
     Ok(())
 }
 
