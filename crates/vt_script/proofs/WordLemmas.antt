@@ -22,7 +22,7 @@ within p n l = grind (arith, nat_tests)
 
 pub cut_is : (bytes : List ℕ) (r : Option (Bor (List ℕ) × Bor (List ℕ)))
     → MatchOption r (position_or_len (λ b. b == 32) bytes ≡ length bytes)
-        (λ x. (position_or_len (λ b. b == 32) bytes < length bytes) × (x.0.now ≡ before_first (λ b. b == 32) bytes) × (x.1.now ≡ after_first (λ b. b == 32) bytes))
+    (λ x. (position_or_len (λ b. b == 32) bytes < length bytes) × (x.0.now ≡ before_first (λ b. b == 32) bytes) × (x.1.now ≡ after_first (λ b. b == 32) bytes))
     → option_map (λ parts. (parts.0.now, parts.1.now)) r ≡ cut bytes
 cut_is bytes None e = rw (place (position_or_len (λ b. b == 32) bytes) (length bytes) e) refl
 cut_is bytes (Some x) h = rw (within (position_or_len (λ b. b == 32) bytes) (length bytes) h.0) (rw h.1 (rw h.2 refl))

@@ -12,6 +12,7 @@ use std::alloc::Global;
 use vt_model::Change;
 
 const MOST_FIRINGS: u64 = 100_000;
+
 const LAST_COLUMN: u64 = 15;
 
 fn create(alloc: Global, rest: &str) -> Result<Change, Stuck>

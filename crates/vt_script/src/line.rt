@@ -12,11 +12,20 @@ pub enum Line {
     /// A client's transaction is dropped.
     Abort(Text),
     /// A change goes into a client's transaction.
-    Change { client: Text, change: Change },
+    Change {
+        client: Text,
+        change: Change,
+    },
     /// An agenda fires at most so many times.
-    Fire { agenda: Text, n: u32 },
+    Fire {
+        agenda: Text,
+        n: u32,
+    },
     /// An agenda is to pick by another policy.
-    Swap { agenda: Text, kind: Policy },
+    Swap {
+        agenda: Text,
+        kind: Policy,
+    },
     /// The rows of a pattern are told.
     Matches(Text),
     /// The activations of an agenda are told.

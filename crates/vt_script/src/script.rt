@@ -6,9 +6,9 @@ ghost use Rattle.vt_script.specs.Commands.{command_of};
 ghost use Rattle.vt_script.specs.Script.{is_blank, is_remark, written, commands_of, script_of, IsFaultOf};
 ghost use Rattle.vt_script.specs.Inside.Gives.{IsAt, returned};
 
+use crate::Line;
 use crate::commands::command;
 use crate::fault::{ScriptFault, Stuck};
-use crate::Line;
 use std::alloc::Global;
 use vt_base::List;
 

@@ -42,7 +42,12 @@ fn named(alloc: Global, word: &str, names: &[&str]) -> Result<String, Fail> {
     Ok(text)
 }
 
-fn created_text(alloc: Global, name: &str, class: &str, number: Option<u32>) -> Result<String, Fail> {
+fn created_text(
+    alloc: Global,
+    name: &str,
+    class: &str,
+    number: Option<u32>,
+) -> Result<String, Fail> {
     match number {
         Some(n) => Ok(format!(in alloc; "Create {name} {class} as {n}")?),
         None => Ok(format!(in alloc; "Create {name} {class}")?),

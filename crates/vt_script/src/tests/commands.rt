@@ -162,7 +162,11 @@ fn names_of_objects_and_clients_are_short(rt: HostRuntime) -> Result<(), Fail> {
         ("matches ", 65, "1"),
         ("matches ", 1_000, "1"),
     ] {
-        assert_eq!(rt; with_name(rt.alloc(), before, bytes)?.as_str(), given, "{before} {bytes}");
+        assert_eq!(rt;
+            with_name(rt.alloc(), before, bytes)?.as_str(),
+            given,
+            "{before} {bytes}"
+        );
     }
     Ok(())
 }

@@ -63,8 +63,14 @@ fn lines_are_skipped_counted_and_refused(rt: HostRuntime) -> Result<(), Fail> {
 fn only_text_is_looked_into(rt: HostRuntime) -> Result<(), Fail> {
     assert_eq!(rt; outcome(rt.alloc(), b"\xff")?.as_str(), "NotText 1");
     assert_eq!(rt; outcome(rt.alloc(), b"x\n\xff")?.as_str(), "NotText 1");
-    assert_eq!(rt; outcome(rt.alloc(), b"dump\n// \xc3")?.as_str(), "NotText 1");
-    assert_eq!(rt; outcome(rt.alloc(), b"dump\n\xed\xa0\x80\nx")?.as_str(), "NotText 1");
+    assert_eq!(rt;
+        outcome(rt.alloc(), b"dump\n// \xc3")?.as_str(),
+        "NotText 1"
+    );
+    assert_eq!(rt;
+        outcome(rt.alloc(), b"dump\n\xed\xa0\x80\nx")?.as_str(),
+        "NotText 1"
+    );
     Ok(())
 }
 
