@@ -1,0 +1,6 @@
+mod WordLemmas
+mod LineLemmas
+mod StringLemmas
+mod ScriptLemmas
+mod QuotedLemmas
+mod FormedLemmas
