@@ -1,5 +1,5 @@
 -- The words of what is spelled have their forms.
-use Rattle.std.proofs.Common.{◌≡◌, ◌≢◌, ℕ, ◌≤◌, Bool, true, false, cond, ◌&&◌, List, [], ◌∷◌, Option, Some, None, refl, sym, ◌∙◌, ap, subst, arith}
+use Rattle.std.proofs.Common.{◌≡◌, ◌≢◌, ℕ, ◌≤◌, Bool, true, false, ◌&&◌, List, [], ◌∷◌, Option, Some, None, refl, subst, arith}
 use Rattle.std.proofs.Common.{◌⊎◌, inl, inr, ◌<◌, length, get_or}
 use Rattle.std.specs.Prelude.{if◌then◌else◌, nat_le, option_map, codes, slice_get, Result, Ok, Err}
 use Rattle.std.specs.List.{AllByRecursion}

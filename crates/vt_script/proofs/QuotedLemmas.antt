@@ -1,11 +1,11 @@
 -- What is read as a string is one.
-use Rattle.std.proofs.Common.{◌≡◌, ◌↔◌, ℕ, Bool, true, false, cond, List, [], ◌∷◌, ◌++◌, Option, Some, None, refl, sym, ◌∙◌, ap, subst}
-use Rattle.std.specs.Prelude.{◌==◌, codes}
+use Rattle.std.proofs.Common.{◌≡◌, ◌↔◌, ℕ, Bool, true, false, cond, List, [], ◌∷◌, ◌++◌, Option, Some, None, refl, ◌∙◌, ap, subst}
+use Rattle.std.specs.Prelude.{◌==◌}
 use Rattle.vt_facts.specs.Parts.{with_front, ◌>>=◌}
 use Rattle.vt_facts.proofs.NumberLemmas.{equal_numbers}
 use Rattle.vt_text.specs.Lexicon.{is_plain, escaped, Writes}
 use Rattle.vt_text.specs.Lexicon.Writes.{nothing, plain, escape}
-use Rattle.vt_script.specs.Words.{unquoted, unescaped, at_end, quoted}
+use Rattle.vt_script.specs.Words.{unquoted, at_end, quoted}
 use Rattle.vt_script.specs.Formed.{IsStringOf}
 use Rattle.vt_script.proofs.StringLemmas.{plain_byte}
 

@@ -1,9 +1,8 @@
 -- Where a line is cut, and the numbers that digits write.
-use Rattle.std.proofs.Common.{◌≡◌, ℕ, ◌+◌, ◌*◌, ◌-◌, ◌<◌, ◌^◌, Bool, true, false, cond, ◌&&◌, List, [], ◌∷◌, length, take, drop, get_or, fold, Option, Some, None, refl, sym, ◌∙◌, ap, arith, rules}
-use Rattle.std.specs.Prelude.{◌==◌, ◌≢◌, ◌≤◌, if◌then◌else◌, MatchOption, option_map, nat_lt, nat_le, pos, neg_ℤ, Result, Ok, Err}
+use Rattle.std.proofs.Common.{◌≡◌, ℕ, ◌+◌, ◌*◌, ◌-◌, ◌<◌, ◌^◌, true, false, cond, ◌&&◌, List, [], ◌∷◌, length, get_or, fold, Option, Some, None, refl, sym, ap, arith, rules}
+use Rattle.std.specs.Prelude.{◌==◌, ◌≢◌, ◌≤◌, MatchOption, option_map, nat_lt, nat_le, pos, neg_ℤ, Ok, Err}
 use Rattle.std.specs.List.{position_or_len, before_first, after_first, list_all}
 use Rattle.std.specs.Char.{is_ascii_digit}
-use Rattle.std.specs.Result.{OkIff}
 use Rattle.std.specs.Str.Parse.{ParsesUnsigned}
 use Rattle.std.proofs.lemmas.Bool.{ne_eqb}
 use Rattle.std.proofs.lemmas.Bool.Decides.{nat_tests}

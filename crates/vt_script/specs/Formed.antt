@@ -1,5 +1,5 @@
 -- That each word of a command has its form, and what a string in quotes is.
-use Rattle.std.specs.Prelude.{◌≡◌, ◌≢◌, ℕ, ◌≤◌, List, [], ◌++◌, codes, true, Option, Some, None}
+use Rattle.std.specs.Prelude.{◌≡◌, ◌≢◌, ℕ, ◌≤◌, List, [], ◌++◌, codes, true, None}
 use Rattle.vt_json.specs.Names.{is_name, continues_object_name}
 use Rattle.vt_text.specs.Lexicon.{Writes}
 use Rattle.vt_model.specs.declared.change.Change.{Change}

@@ -125,7 +125,11 @@ fn line_text(alloc: Global, line: &Line) -> Result<String, Fail> {
             let agenda = agenda.as_str();
             Ok(format!(in alloc; "Fire {agenda} {n}")?)
         }
-        Line::Swap { agenda, kind } => named(alloc, "Swap", &[agenda.as_str(), policy_word(*kind)]),
+        Line::Swap { agenda, kind } => {
+            let agenda = agenda.as_str();
+            let kind = policy_word(*kind);
+            Ok(format!(in alloc; "Swap {agenda} {kind}")?)
+        }
         Line::Matches(pattern) => named(alloc, "Matches", &[pattern.as_str()]),
         Line::Activations(agenda) => named(alloc, "Activations", &[agenda.as_str()]),
         Line::Group {

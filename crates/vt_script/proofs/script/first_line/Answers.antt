@@ -1,4 +1,4 @@
-use Rattle.std.proofs.Common.{◌≡◌, ◌∷◌, Some, None, sym, ◌∙◌, ap, arith}
+use Rattle.std.proofs.Common.{◌∷◌, Some, None, sym, ◌∙◌, ap, arith}
 use Rattle.std.proofs.lemmas.Str.Pattern.{split_parts}
 use Rattle.vt_facts.specs.Lines.{lines_of}
 use Rattle.vt_script.proofs.LineLemmas.{lines_fed, lines_last}

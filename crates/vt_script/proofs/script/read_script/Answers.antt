@@ -1,4 +1,4 @@
-use Rattle.std.proofs.Common.{◌≡◌, IfErr, Ok, Err, Some, None, sym, ◌∙◌, subst, rules}
+use Rattle.std.proofs.Common.{◌≡◌, IfErr, Err, sym, subst, rules}
 use Rattle.vt_script.specs.Script.{script_of, IsFaultOf}
 use Rattle.vt_script.proofs.ScriptLemmas.{no_text, bad_line, extra_line, accepted}
 use Rattle.vt_script.proofs.script.read_script.Goals as goal

@@ -1,4 +1,4 @@
-use Rattle.std.proofs.Common.{◌≡◌, Some, None, sym, ◌∙◌, ap, arith}
+use Rattle.std.proofs.Common.{Some, None, sym, ◌∙◌, ap, arith}
 use Rattle.std.proofs.lemmas.Str.Pattern.{strip_suffix_char}
 use Rattle.vt_script.specs.Inside.Gives.{returned}
 use Rattle.vt_script.proofs.LineLemmas.{returned_front, returned_same}

@@ -1,4 +1,4 @@
-use Rattle.std.proofs.Common.{◌≡◌, ◌<◌, ◌≤◌, ◌^◌, get_or, sym, ◌∙◌, arith, rules, true≢false}
+use Rattle.std.proofs.Common.{◌<◌, ◌≤◌, ◌^◌, sym, ◌∙◌, arith, rules, true≢false}
 use Rattle.std.proofs.lemmas.Str.Pattern.{starts_char}
 use Rattle.vt_script.proofs.WordLemmas.{signed, parsed_within, parsed_above, unparsed}
 use Rattle.vt_script.proofs.words.number.Goals as goal
