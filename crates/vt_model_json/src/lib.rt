@@ -10,6 +10,7 @@ mod document;
 mod loading;
 // The text of a model.
 mod dump;
+mod entries;
 mod plan;
 
 // A document, the model that it makes, and what is new in it.
