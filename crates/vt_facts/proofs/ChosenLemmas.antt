@@ -1,6 +1,6 @@
--- What is chosen from a list by `filter_map` and `flat_map`: its items, and that they rise.
+-- What is chosen from a list by `filter_map` and `flat_map`: its items, and that they rise. What a `filter` keeps.
 use Rattle.std.proofs.Common.{◌≡◌, List, [], ◌∷◌, ◌++◌, map, refl, sym, ap, subst, ◌∙◌, inl, inr, Bool, true, false, cond}
-use Rattle.std.specs.Prelude.{Contains, find, filter, Option, Some, None, option_map}
+use Rattle.std.specs.Prelude.{◌&&◌, Contains, find, filter, Option, Some, None, option_map}
 use Rattle.std.specs.List.{filter_map, flat_map, cons_option}
 use Rattle.std.specs.List.Sorted.{IsStrictlySortedBy}
 use Rattle.std.specs.declared.cmp.Ordering.{Ordering}
@@ -115,7 +115,32 @@ module _ {X Y : Type 0} where
 pub find-agree : {X : Type 0} (p q : X → Bool) (xs : List X) → ((x : X) → p x ≡ q x) → find p xs ≡ find q xs
 find-agree p q xs same = λ i. find (λ x. same x i) xs
 
--- a filter that all pass leaves the list
-pub filter-all : {X : Type 0} (p : X → Bool) (xs : List X) → ((x : X) → Contains xs x → p x ≡ true) → filter p xs ≡ xs
-filter-all p [] all = refl
-filter-all p (x ∷ xs) all = rw (all x (Contains-head x xs)) (ap (λ ys. x ∷ ys) (filter-all p xs (λ y there. all y (Contains-behind x y xs there))))
+-- ---- what a filter keeps
+
+module _ {X : Type 0} where
+  -- one that all pass keeps all
+  pub filter-all : (p : X → Bool) (xs : List X) → ((x : X) → Contains xs x → p x ≡ true) → filter p xs ≡ xs
+  filter-all p [] all = refl
+  filter-all p (x ∷ xs) all = rw (all x (Contains-head x xs)) (ap (λ ys. x ∷ ys) (filter-all p xs (λ y there. all y (Contains-behind x y xs there))))
+
+  -- tests that agree on the items keep the same
+  pub filter-agree : (p q : X → Bool) (xs : List X) → ((x : X) → Contains xs x → p x ≡ q x) → filter p xs ≡ filter q xs
+  filter-agree p q [] same = refl
+  filter-agree p q (x ∷ xs) same =
+      ap (λ b. cond b (x ∷ filter p xs) (filter p xs)) (same x (Contains-head x xs))
+      ∙ ap (λ rest. cond (q x) (x ∷ rest) rest) (filter-agree p q xs (λ y there. same y (Contains-behind x y xs there)))
+
+  -- one that none passes keeps none
+  pub filter-none : (p : X → Bool) (xs : List X) → ((x : X) → Contains xs x → p x ≡ false) → filter p xs ≡ []
+  filter-none p [] none = refl
+  filter-none p (x ∷ xs) none =
+      ap (λ b. cond b (x ∷ filter p xs) (filter p xs)) (none x (Contains-head x xs))
+      ∙ filter-none p xs (λ y there. none y (Contains-behind x y xs there))
+
+  -- one filter after another keeps what passes both
+  pub filter-filter : (p q : X → Bool) (xs : List X) → filter p (filter q xs) ≡ filter (λ x. q x && p x) xs
+  filter-filter p q [] = refl
+  filter-filter p q (x ∷ xs) = elim (q x) as (λ b. filter p (cond b (x ∷ filter q xs) (filter q xs)) ≡ cond (b && p x) (x ∷ filter (λ y. q y && p y) xs) (filter (λ y. q y && p y) xs)) [
+    | true ↦ ap (λ rest. cond (p x) (x ∷ rest) rest) (filter-filter p q xs)
+    | false ↦ filter-filter p q xs
+  ]

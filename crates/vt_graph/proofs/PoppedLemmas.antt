@@ -1,5 +1,5 @@
 -- The last object taken out of the slots: what the model holds then, and that all that holds of slots holds still.
-use Rattle.std.proofs.Common.{◌≡◌, ◌≢◌, ℕ, ◌<◌, ◌≤◌, ◌==◌, List, [], ◌∷◌, ◌++◌, length, filter, not, refl, sym, ap, subst, ◌∙◌, ◌⊎◌, inl, inr, cond, Bool, true, false, arith, Option, Some, None, IsSome, option_map, option_and_then, le_of_eq, eq-eqb, ne_eqb, get_or, MatchOption}
+use Rattle.std.proofs.Common.{◌≡◌, ◌≢◌, ℕ, ◌<◌, ◌≤◌, ◌==◌, List, [], ◌∷◌, ◌++◌, length, filter, not, refl, sym, ap, subst, ◌∙◌, ◌⊎◌, inl, inr, cond, true, false, arith, Option, Some, None, IsSome, option_map, option_and_then, le_of_eq, eq-eqb, ne_eqb, get_or, MatchOption}
 use Rattle.std.specs.Prelude.{Contains, All}
 use Rattle.std.specs.List.{filter_map, flat_map, cons_option}
 use Rattle.std.specs.declared.cmp.Ordering.TheVariants.{Less}
@@ -13,7 +13,7 @@ use Rattle.vt_base.specs.declared.numbers.ClassId.{ClassId}
 use Rattle.vt_model.specs.Metamodel.{Metamodel}
 use Rattle.vt_model.specs.declared.model.Object.{Object}
 use Rattle.vt_model.specs.declared.model.AttributeValue.{AttributeValue}
-use Rattle.vt_facts.proofs.MemberLemmas.{Contains-nil, Contains-head, Contains-behind, Contains-cons_cases, All-from_contains}
+use Rattle.vt_facts.proofs.MemberLemmas.{Contains-nil, Contains-cons_cases, All-from_contains}
 use Rattle.vt_slots.specs.Ends.{objects_of, capacity_of}
 use Rattle.vt_slots.specs.Slots.{slot_order, NumbersRise, slot_at, ends_at}
 use Rattle.vt_slots.specs.declared.slot.Side.{Side}
@@ -31,7 +31,7 @@ use Rattle.vt_graph.specs.Inside.Making.{changed_at, without_last}
 use Rattle.vt_graph.specs.declared.plan.ClassPlan.{ClassPlan}
 use Rattle.vt_graph.specs.Inside.Ended.{SameObjects}
 use Rattle.vt_facts.proofs.RisingLemmas.{first_below, rest_rises}
-use Rattle.vt_facts.proofs.ChosenLemmas.{Contains-from_flat_map, filter-all}
+use Rattle.vt_facts.proofs.ChosenLemmas.{Contains-from_flat_map, filter-all, filter-none}
 use Rattle.vt_graph.proofs.SlotLemmas.{same_object, slot_at_stands, slot_at_number, body_at_none, ends_at_none, slot_at_push_other, ends_at_push_other}
 use Rattle.vt_graph.proofs.ValueLemmas.{body_value_object}
 use Rattle.vt_graph.proofs.ObjectLemmas.{live_at_slot, object_of, gone_of, live_of_slot, gone_of_slot, slot_of_live}
@@ -53,11 +53,6 @@ below_last slots last rise s there = below s.number.0 last.number.0 (by slots ri
       | inl is ↦ subst (λ u. slot_order u last ≡ Less) is (first_below slot_order t (ts ++ last ∷ []) rise last (Contains-push ts last))
       | inr later ↦ by ts (rest_rises slot_order t (ts ++ last ∷ []) rise) later
     ]
-
--- a filter that none passes leaves nothing
-filter-none : {X : Type 0} (p : X → Bool) (xs : List X) → ((x : X) → Contains xs x → p x ≡ false) → filter p xs ≡ []
-filter-none p [] none = refl
-filter-none p (x ∷ xs) none = rw (none x (Contains-head x xs)) (filter-none p xs (λ y there. none y (Contains-behind x y xs there)))
 
 module _ (meta : Metamodel) (next to : ℕ) (slots : List Slot) (last : Slot) (o : ObjId) where
   abbrev all : List Slot

@@ -1,5 +1,5 @@
 -- What changed between two lists, as short lists.
-use Rattle.std.proofs.Common.{◌≡◌, List, [], ◌∷◌, ◌++◌, refl, sym, ap, ap₂, subst, ◌∙◌, ◌⊎◌, inl, inr, Bool, true, false, not}
+use Rattle.std.proofs.Common.{◌≡◌, List, [], ◌∷◌, ◌++◌, refl, sym, ap, ap₂, subst, ◌∙◌, ◌⊎◌, inl, inr, Bool, not}
 use Rattle.std.specs.Prelude.{Contains, Decides, filter}
 use Rattle.std.specs.Cmp.{IsTotalOrder}
 use Rattle.std.specs.List.{list_any}
@@ -7,16 +7,16 @@ use Rattle.std.specs.List.Sorted.{IsStrictlySortedBy}
 use Rattle.std.specs.declared.cmp.Ordering.{Ordering}
 use Rattle.std.proofs.lemmas.List.Elements.{filter-append}
 use Rattle.std.proofs.lemmas.List.Kept.{IsStrictlySortedBy-filter}
-use Rattle.vt_facts.proofs.MemberLemmas.{Contains-nil, Contains-head, Contains-cons_cases}
+use Rattle.vt_facts.proofs.MemberLemmas.{Contains-nil, Contains-cons_cases}
 use Rattle.std.proofs.lemmas.List.Elements.{Contains-append_left}
 use Rattle.std.proofs.lemmas.Bool.{both_ways}
 use Rattle.vt_store.specs.Edits.{ListChange, TellsApart, without, net}
 use Rattle.vt_store.specs.Inside.Displaced.{no_change}
 use Rattle.vt_store.proofs.EditLemmas
 use Rattle.vt_store.proofs.EditLemmas.{known, stands, absent, Contains-without, Contains-from_without, net-tells_apart}
-use Rattle.vt_store.proofs.Linking.Lists.{filter-none, without-itself}
+use Rattle.vt_store.proofs.Linking.Lists.{without-itself}
 use Rattle.vt_facts.proofs.RisingLemmas.{same_items}
-use Rattle.vt_facts.proofs.ChosenLemmas.{filter-all}
+use Rattle.vt_facts.proofs.ChosenLemmas.{filter-all, filter-none}
 
 -- ---- one item
 

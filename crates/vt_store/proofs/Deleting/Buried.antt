@@ -19,8 +19,7 @@ use Rattle.vt_model.proofs.Valid.Containment.{same_object}
 use Rattle.vt_store.specs.Inside.Levels.{numbers, object_at, without_object, buried}
 use Rattle.vt_store.proofs.Deleting.Taken.{same_test, not_either, list_any-there, list_any-item}
 use Rattle.vt_facts.proofs.RisingLemmas.{tied_is, first_below}
-use Rattle.vt_store.proofs.Linking.Lists.{filter-filter, filter-agree}
-use Rattle.vt_facts.proofs.ChosenLemmas.{filter-all}
+use Rattle.vt_facts.proofs.ChosenLemmas.{filter-all, filter-filter, filter-agree}
 use Rattle.vt_store.proofs.UndoneLemmas.{object_order_total}
 
 -- objects of one number are tied

@@ -18,6 +18,7 @@ use Rattle.vt_model.specs.Valid.{object_order, IsValid}
 use Rattle.vt_model.specs.declared.model.Object.{Object}
 use Rattle.vt_model.specs.declared.model.GoneObject.{GoneObject}
 use Rattle.vt_facts.proofs.MemberLemmas.{Contains-nil, Contains-head, Contains-behind, Contains-cons_cases, Contains-filter, Contains-from_filter, Contains-insert_key_cases, Contains-from_map}
+use Rattle.vt_facts.proofs.ChosenLemmas.{filter-agree, filter-none}
 use Rattle.vt_model.proofs.Valid.Containment.{same_object as one_number}
 use Rattle.vt_model.proofs.Valid.Gone.{gone_of, IsStrictlySortedBy-with_gone}
 use Rattle.vt_store.specs.Edits.{without, net, edit_of, same_object, same_gone, same_value, same_link}
@@ -28,7 +29,6 @@ use Rattle.vt_store.proofs.Deleting.Taken.{same_test, list_any-there, list_any-i
 use Rattle.vt_store.proofs.Deleting.Buried.{other_number}
 use Rattle.vt_store.proofs.Deleting.Same.{TellsEqual, TellsEqual-object, TellsEqual-gone, TellsEqual-value, TellsEqual-link}
 use Rattle.vt_facts.proofs.RisingLemmas.{same_items, Contains-insert_key_there}
-use Rattle.vt_store.proofs.Linking.Lists.{filter-agree, filter-none}
 use Rattle.vt_store.proofs.UndoneLemmas.{gone_order_total}
 
 -- ---- a list that a filter leaves

@@ -25,8 +25,7 @@ use Rattle.vt_slots.specs.Ends.{number_order}
 use Rattle.vt_store.proofs.Deleting.ListLemmas.{rises-map}
 use Rattle.vt_facts.proofs.RisingLemmas.{tied_is, same_items}
 use Rattle.vt_graph.proofs.Linked.Stored.{link_order_total}
-use Rattle.vt_facts.proofs.ChosenLemmas.{Contains-flat_map, Contains-from_flat_map, rises-flat_map}
-use Rattle.vt_store.proofs.Linking.Lists.{filter-filter}
+use Rattle.vt_facts.proofs.ChosenLemmas.{Contains-flat_map, Contains-from_flat_map, rises-flat_map, filter-filter}
 use Rattle.vt_graph.proofs.Linked.Ends.{same_reference}
 
 -- equal numbers are tied

@@ -20,8 +20,7 @@ use Rattle.vt_model.specs.declared.model.Link.{Link}
 use Rattle.vt_facts.proofs.MemberLemmas.{Contains-nil, Contains-head, Contains-behind, Contains-cons_cases, Contains-filter, Contains-from_filter}
 use Rattle.vt_model.proofs.Valid.Containment.{same_object}
 use Rattle.vt_store.specs.Inside.Levels.{without_link, value_taken, values_taken}
-use Rattle.vt_store.proofs.Linking.Lists.{filter-filter, filter-agree}
-use Rattle.vt_facts.proofs.ChosenLemmas.{filter-all}
+use Rattle.vt_facts.proofs.ChosenLemmas.{filter-all, filter-filter, filter-agree}
 use Rattle.vt_graph.proofs.Linked.Changed.{is_link-same, is_link-itself}
 
 -- ---- tests

@@ -20,11 +20,12 @@ use Rattle.vt_model.specs.declared.model.GoneObject.{GoneObject}
 use Rattle.vt_model.specs.declared.model.AttributeValue.{AttributeValue}
 use Rattle.vt_model.specs.declared.model.Link.{Link}
 use Rattle.vt_facts.proofs.MemberLemmas.{Contains-nil, Contains-filter, Contains-from_filter}
+use Rattle.vt_facts.proofs.ChosenLemmas.{filter-agree, filter-none}
 use Rattle.vt_model.proofs.Valid.Dropped.{Comes}
 use Rattle.vt_model.proofs.Valid.WithLink.{Contains-with_link_cases, Contains-with_link_old, Contains-with_link_new, IsStrictlySortedBy-with_link}
 use Rattle.vt_store.specs.Edits.{same_object, same_gone, same_value, same_link, without, net, edit_of}
 use Rattle.vt_store.specs.Inside.Displaced.{NoneStands, no_change, links_edit}
-use Rattle.vt_store.proofs.Linking.Lists.{filter-agree, filter-none, without-itself}
+use Rattle.vt_store.proofs.Linking.Lists.{without-itself}
 use Rattle.vt_store.proofs.Linking.Links.{listed-Contains, not_listed, not_there}
 use Rattle.vt_store.proofs.Linking.Steps.{gone_filter}
 use Rattle.vt_store.proofs.Linking.Coming.{comes_anew, none_stands_oriented, linked_stands, linked_new}

@@ -1,41 +1,12 @@
--- Lists: what several items give together, what a filter keeps, what one list has that another one hasn't.
-use Rattle.std.proofs.Common.{◌≡◌, List, [], ◌∷◌, ◌++◌, map, refl, sym, ap, subst, ◌∙◌, Bool, true, false, cond, not, inl, inr}
+-- What one list has that another one hasn't.
+use Rattle.std.proofs.Common.{◌≡◌, List, [], ◌∷◌, ◌++◌, refl, sym, ap, subst, ◌∙◌, Bool, true, false, not, inl, inr}
 use Rattle.std.specs.Prelude.{◌&&◌, ◌||◌, filter, Contains}
-use Rattle.std.specs.List.{list_any, flat_map}
-use Rattle.std.specs.List.Sorted.{IsStrictlySortedBy}
-use Rattle.std.specs.declared.cmp.Ordering.{Ordering}
-use Rattle.std.proofs.lemmas.List.Elements.{Contains-append_left, Contains-append_right, Contains-append_cases}
-use Rattle.vt_facts.proofs.MemberLemmas.{Contains-nil, Contains-head, Contains-behind, Contains-cons_cases}
+use Rattle.std.specs.List.{list_any}
+use Rattle.vt_facts.proofs.MemberLemmas.{Contains-nil, Contains-cons_cases}
 use Rattle.vt_store.specs.Edits.{without}
-use Rattle.vt_facts.proofs.ChosenLemmas.{filter-all}
-
--- ---- filters
+use Rattle.vt_facts.proofs.ChosenLemmas.{filter-all, filter-agree, filter-none, filter-filter}
 
 module _ {X : Type 0} where
-  -- tests that agree on the items keep the same
-  pub filter-agree : (p q : X → Bool) (xs : List X) → ((x : X) → Contains xs x → p x ≡ q x) → filter p xs ≡ filter q xs
-  filter-agree p q [] same = refl
-  filter-agree p q (x ∷ xs) same =
-      ap (λ b. cond b (x ∷ filter p xs) (filter p xs)) (same x (Contains-head x xs))
-      ∙ ap (λ rest. cond (q x) (x ∷ rest) rest) (filter-agree p q xs (λ y there. same y (Contains-behind x y xs there)))
-
-  -- one that none passes keeps none
-  pub filter-none : (p : X → Bool) (xs : List X) → ((x : X) → Contains xs x → p x ≡ false) → filter p xs ≡ []
-  filter-none p [] none = refl
-  filter-none p (x ∷ xs) none =
-      ap (λ b. cond b (x ∷ filter p xs) (filter p xs)) (none x (Contains-head x xs))
-      ∙ filter-none p xs (λ y there. none y (Contains-behind x y xs there))
-
-  -- one filter after another keeps what passes both
-  pub filter-filter : (p q : X → Bool) (xs : List X) → filter p (filter q xs) ≡ filter (λ x. q x && p x) xs
-  filter-filter p q [] = refl
-  filter-filter p q (x ∷ xs) = elim (q x) as (λ b. filter p (cond b (x ∷ filter q xs) (filter q xs)) ≡ cond (b && p x) (x ∷ filter (λ y. q y && p y) xs) (filter (λ y. q y && p y) xs)) [
-    | true ↦ ap (λ rest. cond (p x) (x ∷ rest) rest) (filter-filter p q xs)
-    | false ↦ filter-filter p q xs
-  ]
-
-  -- ---- one list without another
-
   module _ (same : X → X → Bool) where
     -- neither of two
     neither : (a b : Bool) → (not a && not b) ≡ not (b || a)

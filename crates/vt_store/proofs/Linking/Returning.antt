@@ -15,10 +15,10 @@ use Rattle.vt_model.specs.Model.{Model}
 use Rattle.vt_model.specs.Linking.{link_order, is_link}
 use Rattle.vt_model.specs.declared.model.Link.{Link}
 use Rattle.vt_facts.proofs.MemberLemmas.{Contains-head, Contains-behind, Contains-filter, Contains-from_filter, Contains-insert_key_cases, Contains-insert_key_new, length-filter_without}
+use Rattle.vt_facts.proofs.ChosenLemmas.{filter-filter, filter-agree}
 use Rattle.vt_facts.proofs.OrderedLemmas.{IsStrictlySortedBy-insert_key}
 use Rattle.vt_store.specs.Inside.Displaced.{targets_of, sources_of, without_link, without_back, with_one, with_each, IsReturning}
 use Rattle.vt_store.proofs.RisingLemmas.{inserted_rise, Contains-inserted_old}
-use Rattle.vt_store.proofs.Linking.Lists.{filter-filter, filter-agree}
 use Rattle.vt_store.proofs.Linking.Links.{listed-Contains, Contains-listed, not_there}
 use Rattle.vt_store.proofs.Linking.Ends.{goes_out, comes_in}
 use Rattle.vt_store.proofs.Linking.Steps.{left, left_back, with_each_is, come_back_to, but_for-insert_key}

@@ -14,11 +14,11 @@ use Rattle.vt_facts.proofs.OrderedLemmas.{IsStrictlySortedBy-insert_key}
 use Rattle.vt_store.specs.Edits.{same_link, without}
 use Rattle.vt_store.specs.Inside.Displaced.{without_link, without_each, without_back, with_one, with_each}
 use Rattle.vt_store.proofs.RisingLemmas.{inserted_is}
-use Rattle.vt_store.proofs.Linking.Lists.{filter-agree, without-none, without-cons, without-push, without-then}
+use Rattle.vt_store.proofs.Linking.Lists.{without-none, without-cons, without-push, without-then}
 use Rattle.vt_store.proofs.Linking.Links.{is_link-differs, listed-Contains, not_there}
 use Rattle.vt_store.proofs.Linking.Arranged.{is_link_equiv}
 use Rattle.vt_facts.proofs.RisingLemmas.{same_items}
-use Rattle.vt_facts.proofs.ChosenLemmas.{filter-all}
+use Rattle.vt_facts.proofs.ChosenLemmas.{filter-all, filter-agree}
 use Rattle.vt_graph.proofs.Linked.Changed.{is_link-itself}
 use Rattle.vt_graph.proofs.Linked.Stored.{link_order_total}
 

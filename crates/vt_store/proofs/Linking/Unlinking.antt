@@ -17,13 +17,12 @@ use Rattle.vt_model.proofs.Valid.Dropped.{Comes}
 use Rattle.vt_model.proofs.Valid.WithLink.{Contains-with_link_cases, Contains-with_link_new, IsStrictlySortedBy-with_link}
 use Rattle.vt_store.specs.Edits.{edit_of}
 use Rattle.vt_store.specs.Inside.Displaced.{without_link, without_each, without_back, links_edit}
-use Rattle.vt_store.proofs.Linking.Lists.{filter-agree, filter-none, filter-filter}
 use Rattle.vt_store.proofs.Linking.Links.{Contains-listed, not_listed}
 use Rattle.vt_store.proofs.Linking.Steps.{but_for, left_each, left_back}
 use Rattle.vt_store.proofs.Linking.LinkEdits.{edit_of_fewer}
 use Rattle.vt_store.proofs.Linking.Coming.{Comes-stands, Comes-stood}
 use Rattle.vt_facts.proofs.RisingLemmas.{same_items, rises-none}
-use Rattle.vt_facts.proofs.ChosenLemmas.{filter-all}
+use Rattle.vt_facts.proofs.ChosenLemmas.{filter-all, filter-agree, filter-none, filter-filter}
 use Rattle.vt_graph.proofs.Linked.Changed.{is_link-same, is_link-itself}
 use Rattle.vt_graph.proofs.Linked.Stored.{link_order_total}
 

@@ -1,6 +1,6 @@
 -- Objects that were created go, and objects that were deleted come back.
-use Rattle.std.proofs.Common.{◌≡◌, ℕ, List, [], ◌∷◌, ◌++◌, map, reverse, refl, sym, ap, subst, ◌∙◌, ◌⊎◌, inl, inr, Bool, true, false, not, arith}
-use Rattle.std.specs.Prelude.{◌==◌, ◌||◌, Contains, filter, find, fold, Option, None, Some}
+use Rattle.std.proofs.Common.{◌≡◌, List, [], ◌∷◌, map, reverse, refl, sym, ap, subst, ◌∙◌, ◌⊎◌, inl, inr, Bool, true, false, not, arith}
+use Rattle.std.specs.Prelude.{◌==◌, ◌||◌, Contains, filter, find, fold, Some}
 use Rattle.std.specs.BTreeSet.{insert_key}
 use Rattle.std.specs.Cmp.{IsTotalOrder}
 use Rattle.std.specs.List.Sorted.{IsStrictlySortedBy}
@@ -11,15 +11,13 @@ use Rattle.std.proofs.lemmas.Bool.Decides.{nat_tests}
 use Rattle.std.proofs.lemmas.Grind.{fold-append, reverse_onto}
 use Rattle.std.proofs.lemmas.List.Sorted.{IsPermutation-reverse, IsPermutation-sym, Contains-permutation}
 use Rattle.std.proofs.lemmas.Map.Keys.{sorted_tail}
-use Rattle.vt_base.specs.declared.numbers.ObjId.{ObjId}
-use Rattle.vt_base.specs.declared.numbers.ClassId.{ClassId}
 use Rattle.vt_model.specs.Model.{Model}
 use Rattle.vt_model.specs.Deleting.{gone_order}
 use Rattle.vt_model.specs.Valid.{object_order}
 use Rattle.vt_model.specs.declared.model.Object.{Object}
 use Rattle.vt_model.specs.declared.model.GoneObject.{GoneObject}
 use Rattle.vt_facts.proofs.MemberLemmas.{Contains-head, Contains-behind, Contains-find, find-some, Contains-from_map}
-use Rattle.vt_graph.specs.Asked.{gone_at}
+use Rattle.vt_facts.proofs.ChosenLemmas.{filter-agree}
 use Rattle.vt_graph.specs.Held.{Buried}
 use Rattle.vt_graph.specs.Passing.{with_raised}
 use Rattle.vt_store.specs.Edits.{same_object, same_gone, without}
@@ -28,7 +26,7 @@ use Rattle.vt_store.proofs.EditLemmas.{known, Contains-without, Contains-from_wi
 use Rattle.vt_store.proofs.RisingLemmas.{inserted_is}
 use Rattle.vt_store.proofs.SameLemmas.{Decides-same_object, Decides-same_gone}
 use Rattle.vt_store.proofs.UndoneLemmas.{object_order_total, gone_order_total}
-use Rattle.vt_store.proofs.Linking.Lists.{filter-agree, without-none, without-then}
+use Rattle.vt_store.proofs.Linking.Lists.{without-none, without-then}
 use Rattle.vt_facts.proofs.RisingLemmas.{not_below_itself, first_below, tied_is}
 
 -- ---- lists

@@ -1,5 +1,5 @@
 -- Values that go one by one, and values that come back.
-use Rattle.std.proofs.Common.{◌≡◌, List, [], ◌∷◌, refl, sym, ap, subst, ◌∙◌, ◌⊎◌, inl, inr, Bool, true, false, not}
+use Rattle.std.proofs.Common.{◌≡◌, List, [], ◌∷◌, refl, sym, ap, subst, ◌∙◌, inl, inr, Bool, true, not}
 use Rattle.std.specs.Prelude.{Contains, filter, fold}
 use Rattle.std.specs.BTreeSet.{insert_key}
 use Rattle.std.specs.List.Sorted.{IsStrictlySortedBy}
@@ -9,6 +9,7 @@ use Rattle.vt_model.specs.Model.{Model}
 use Rattle.vt_model.specs.Assigning.{value_order, is_value_of}
 use Rattle.vt_model.specs.declared.model.AttributeValue.{AttributeValue}
 use Rattle.vt_facts.proofs.MemberLemmas.{Contains-head, Contains-behind, Contains-filter, Contains-from_filter, Contains-insert_key_cases, Contains-insert_key_old}
+use Rattle.vt_facts.proofs.ChosenLemmas.{filter-agree}
 use Rattle.vt_facts.proofs.OrderedLemmas.{IsStrictlySortedBy-insert_key}
 use Rattle.vt_model.proofs.Valid.Defaults.{is_value_of-yes}
 use Rattle.vt_store.specs.Edits.{same_value, without}
@@ -16,7 +17,7 @@ use Rattle.vt_store.specs.Inside.Assigned.{without_values, with_values}
 use Rattle.vt_store.proofs.EditLemmas.{known}
 use Rattle.vt_store.proofs.SameLemmas.{Decides-same_value}
 use Rattle.vt_store.proofs.AssignLemmas.{one_value}
-use Rattle.vt_store.proofs.Linking.Lists.{filter-agree, without-none, without-cons}
+use Rattle.vt_store.proofs.Linking.Lists.{without-none, without-cons}
 use Rattle.vt_facts.proofs.RisingLemmas.{same_items, tied_is, Contains-insert_key_there}
 use Rattle.vt_graph.proofs.ValueLemmas.{value_order_total}
 
