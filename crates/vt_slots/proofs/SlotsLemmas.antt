@@ -15,10 +15,10 @@ use Rattle.vt_facts.specs.Names.{is_name, is_distinct}
 use Rattle.vt_facts.proofs.OrderedLemmas.{IsStrictlySortedBy-append}
 use Rattle.vt_model.proofs.DistinctLemmas.{is_distinct-push}
 use Rattle.vt_facts.proofs.PositionLemmas.{position-map, position_agree, find_position}
-use Rattle.vt_slots.specs.Ends.{EndList, ObjectsRise, reference_order}
+use Rattle.vt_slots.specs.Ends.{EndList, ObjectsRise, reference_order, HaveShape}
 use Rattle.vt_slots.specs.Slots.{slot_order, NumbersRise, NamesDiffer, slot_at, slot_named, body_at, ends_on, ends_at, with_body, with_value_at, with_slot_value, bare, OtherEndsStay}
 use Rattle.vt_slots.specs.Inside.Place.{StandsAt, GoesAt}
-use Rattle.vt_slots.specs.Inside.Shape.{slot_ends, HaveShape}
+use Rattle.vt_slots.specs.Inside.Shape.{slot_ends}
 use Rattle.vt_slots.specs.declared.slot.Side.{Side}
 use Rattle.vt_slots.specs.declared.slot.Body.{Body}
 use Rattle.vt_slots.specs.declared.slot.Slot.{Slot}

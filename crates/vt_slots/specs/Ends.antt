@@ -1,5 +1,5 @@
 -- The ends of an object on one side: for each reference the objects at the other end of its links.
-use Rattle.std.specs.Prelude.{◌≡◌, ℕ, ◌<◌, ◌≤◌, ◌≢◌, ◌==◌, not, List, [], find, filter, length, Option, option_map, unwrap_or}
+use Rattle.std.specs.Prelude.{◌≡◌, ℕ, ◌<◌, ◌≤◌, ◌≢◌, ◌==◌, not, List, [], find, filter, length, All, Option, option_map, unwrap_or}
 use Rattle.std.specs.List.Sorted.{IsStrictlySortedBy}
 use Rattle.std.specs.BTreeSet.{insert_key}
 use Rattle.std.specs.declared.cmp.Ordering.{Ordering}
@@ -44,6 +44,12 @@ capacity_of lists r = unwrap_or (option_map (λ l. l.capacity) (list_of lists r)
 -- one more object of the reference needs no memory
 abbrev pub HasSpace : List EndList → RefId → Type 0
 HasSpace lists r = length (objects_of lists r) < capacity_of lists r
+
+-- references rise, so do the objects of each, and there is room for them
+pub record HaveShape (lists : List EndList) : Type 0 where
+  pub references_rise : ReferencesRise lists
+  pub objects_rise : All (λ l. ObjectsRise l.objects) lists
+  pub fits : All (λ l. length l.objects ≤ l.capacity) lists
 
 -- ---- what a change does
 

@@ -1,9 +1,9 @@
 // One object.
 ghost use Rattle.std.specs.Prelude.{◌≡◌, IsOk, OnOk, OnErr, IsSome, IsSomeAnd, option_map, option_and_then};
 ghost use Rattle.vt_slots.specs.Values.{HasPlace, value_in};
-ghost use Rattle.vt_slots.specs.Ends.{AddsEnd, DropsEnd, SameEnds, KeepsRoom, SameRoom, HasSpace};
+ghost use Rattle.vt_slots.specs.Ends.{AddsEnd, DropsEnd, SameEnds, KeepsRoom, SameRoom, HasSpace, HaveShape};
 ghost use Rattle.vt_slots.specs.Slots.{ends_on, bare, bare_body, with_value_at};
-ghost use Rattle.vt_slots.specs.Inside.Shape.{slot_ends, HaveShape};
+ghost use Rattle.vt_slots.specs.Inside.Shape.{slot_ends};
 
 use crate::{Ends, Values};
 use vt_base::{AttrId, ClassId, NoMemory, ObjId, RefId, Text, Value};

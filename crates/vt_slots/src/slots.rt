@@ -1,8 +1,8 @@
 // All objects that ever were, by number and by name.
-ghost use Rattle.std.specs.Prelude.{◌≡◌, ◌<◌, ◌≤◌, [], ◌∷◌, ◌++◌, All, map, length, None, Some, slice_get, IsSome, IsSomeAnd, IsOk, OnOk, OnErr, MatchOption};
+ghost use Rattle.std.specs.Prelude.{◌≡◌, ◌<◌, [], ◌∷◌, ◌++◌, All, map, length, None, Some, slice_get, IsSome, IsSomeAnd, IsOk, OnOk, OnErr, MatchOption};
 ghost use Rattle.std.specs.Option.{option_copied};
 ghost use Rattle.vt_slots.specs.Values.{HasPlace};
-ghost use Rattle.vt_slots.specs.Ends.{AddsEnd, DropsEnd, SameEnds, KeepsRoom, SameRoom, ReferencesRise, ObjectsRise, HasSpace};
+ghost use Rattle.vt_slots.specs.Ends.{AddsEnd, DropsEnd, SameEnds, KeepsRoom, SameRoom, HasSpace, HaveShape};
 ghost use Rattle.vt_slots.specs.Slots.{NumbersRise, NamesDiffer, live_slot, slot_at, slot_named, body_at, ends_at, slot_value, with_body, with_slot_value, bare, OtherEndsStay};
 ghost use Rattle.vt_slots.specs.Inside.Place.{IsPlace, StandsAt};
 
@@ -165,9 +165,7 @@ impl Slots {
         ensures others { OtherEndsStay self.old self.new o side }
         ensures room { KeepsRoom (ends_at self.old o side) (ends_at self.new o side) }
         ensures succeeds { HasSpace (ends_at self.old o side) r → IsOk result }
-        ensures references_rise { ReferencesRise (ends_at self.new o side) }
-        ensures objects_rise { All (λ l. ObjectsRise l.objects) (ends_at self.new o side) }
-        ensures fits { All (λ l. length l.objects ≤ l.capacity) (ends_at self.new o side) }
+        ensures shape { HaveShape (ends_at self.new o side) }
     {
         let i = place_there(self.slots.as_slice(), o);
         self.slots[i].insert_end(side, r, other)
@@ -181,9 +179,7 @@ impl Slots {
         ensures there { DropsEnd (ends_at self.old o side) (ends_at self.new o side) r other }
         ensures others { OtherEndsStay self.old self.new o side }
         ensures room { SameRoom (ends_at self.old o side) (ends_at self.new o side) }
-        ensures references_rise { ReferencesRise (ends_at self.new o side) }
-        ensures objects_rise { All (λ l. ObjectsRise l.objects) (ends_at self.new o side) }
-        ensures fits { All (λ l. length l.objects ≤ l.capacity) (ends_at self.new o side) }
+        ensures shape { HaveShape (ends_at self.new o side) }
     {
         match place_of(self.slots.as_slice(), o) {
             Ok(i) => self.slots[i].remove_end(side, r, other),

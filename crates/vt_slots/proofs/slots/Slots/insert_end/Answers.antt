@@ -1,6 +1,6 @@
-use Rattle.std.proofs.Common.{◌<◌, ◌≤◌, length, map, slice_set, IsSome, All, sym, ap, subst, subst₂, ◌∙◌}
+use Rattle.std.proofs.Common.{◌<◌, length, map, slice_set, IsSome, sym, ap, subst, subst₂, ◌∙◌}
 use Rattle.std.proofs.lemmas.Result.{on_ok_weaker, on_err_weaker}
-use Rattle.vt_slots.specs.Ends.{EndList, ObjectsRise, ReferencesRise, AddsEnd, SameEnds, KeepsRoom, objects_of, capacity_of}
+use Rattle.vt_slots.specs.Ends.{AddsEnd, SameEnds, KeepsRoom, HaveShape, objects_of, capacity_of}
 use Rattle.vt_slots.specs.Slots.{bare, OtherEndsStay}
 use Rattle.vt_slots.specs.Inside.Place.{StandsAt}
 use Rattle.vt_slots.specs.Inside.Shape.{slot_ends}
@@ -62,23 +62,9 @@ returns-clause-room c =
     let after = ends_changed _ c.args.o c.place_there-i.result there c.index_mut.result.now c.insert_end.new.self alike c.args.side in
     subst₂ KeepsRoom (sym before) (sym after) c.insert_end.ensures.room
 
-pub returns-clause-references_rise : goal.returns-clause-references_rise
-returns-clause-references_rise c =
+pub returns-clause-shape : goal.returns-clause-shape
+returns-clause-shape c =
     let there = subst (λ slots. StandsAt slot_number c.args.o.0 slots c.place_there-i.result) c.as_slice.ensures.value c.place_there-i.ensures in
     let alike = c.insert_end.ensures.bare ∙ ap bare c.index_mut.ensures.value in
     let after = ends_changed _ c.args.o c.place_there-i.result there c.index_mut.result.now c.insert_end.new.self alike c.args.side in
-    subst ReferencesRise (sym after) c.insert_end.ensures.shape.references_rise
-
-pub returns-clause-objects_rise : goal.returns-clause-objects_rise
-returns-clause-objects_rise c =
-    let there = subst (λ slots. StandsAt slot_number c.args.o.0 slots c.place_there-i.result) c.as_slice.ensures.value c.place_there-i.ensures in
-    let alike = c.insert_end.ensures.bare ∙ ap bare c.index_mut.ensures.value in
-    let after = ends_changed _ c.args.o c.place_there-i.result there c.index_mut.result.now c.insert_end.new.self alike c.args.side in
-    subst (All (λ (l : EndList). ObjectsRise l.objects)) (sym after) c.insert_end.ensures.shape.objects_rise
-
-pub returns-clause-fits : goal.returns-clause-fits
-returns-clause-fits c =
-    let there = subst (λ slots. StandsAt slot_number c.args.o.0 slots c.place_there-i.result) c.as_slice.ensures.value c.place_there-i.ensures in
-    let alike = c.insert_end.ensures.bare ∙ ap bare c.index_mut.ensures.value in
-    let after = ends_changed _ c.args.o c.place_there-i.result there c.index_mut.result.now c.insert_end.new.self alike c.args.side in
-    subst (All (λ (l : EndList). length l.objects ≤ l.capacity)) (sym after) c.insert_end.ensures.shape.fits
+    subst HaveShape (sym after) c.insert_end.ensures.shape

@@ -1,5 +1,5 @@
-use Rattle.std.proofs.Common.{◌≤◌, length, map, slice_set, refl, All, sym, ap, subst, subst₂, ◌∙◌}
-use Rattle.vt_slots.specs.Ends.{EndList, ObjectsRise, ReferencesRise, DropsEnd, SameRoom}
+use Rattle.std.proofs.Common.{map, slice_set, refl, sym, ap, subst, subst₂, ◌∙◌}
+use Rattle.vt_slots.specs.Ends.{DropsEnd, SameRoom, HaveShape}
 use Rattle.vt_slots.specs.Slots.{bare, OtherEndsStay}
 use Rattle.vt_slots.specs.Inside.Place.{StandsAt, GoesAt}
 use Rattle.vt_slots.specs.Inside.Shape.{slot_ends}
@@ -41,26 +41,12 @@ returns-in-Ok-clause-room c =
     let after = ends_changed _ c.args.o c.in-Ok.i there c.index_mut.result.now c.remove_end.new.self alike c.args.side in
     subst₂ SameRoom (sym before) (sym after) c.remove_end.ensures.room
 
-pub returns-in-Ok-clause-references_rise : goal.returns-in-Ok-clause-references_rise
-returns-in-Ok-clause-references_rise c =
+pub returns-in-Ok-clause-shape : goal.returns-in-Ok-clause-shape
+returns-in-Ok-clause-shape c =
     let there = subst (λ slots. StandsAt slot_number c.args.o.0 slots c.in-Ok.i) c.as_slice.ensures.value c.in-Ok.ensures in
     let alike = c.remove_end.ensures.bare ∙ ap bare c.index_mut.ensures.value in
     let after = ends_changed _ c.args.o c.in-Ok.i there c.index_mut.result.now c.remove_end.new.self alike c.args.side in
-    subst ReferencesRise (sym after) c.remove_end.ensures.shape.references_rise
-
-pub returns-in-Ok-clause-objects_rise : goal.returns-in-Ok-clause-objects_rise
-returns-in-Ok-clause-objects_rise c =
-    let there = subst (λ slots. StandsAt slot_number c.args.o.0 slots c.in-Ok.i) c.as_slice.ensures.value c.in-Ok.ensures in
-    let alike = c.remove_end.ensures.bare ∙ ap bare c.index_mut.ensures.value in
-    let after = ends_changed _ c.args.o c.in-Ok.i there c.index_mut.result.now c.remove_end.new.self alike c.args.side in
-    subst (All (λ (l : EndList). ObjectsRise l.objects)) (sym after) c.remove_end.ensures.shape.objects_rise
-
-pub returns-in-Ok-clause-fits : goal.returns-in-Ok-clause-fits
-returns-in-Ok-clause-fits c =
-    let there = subst (λ slots. StandsAt slot_number c.args.o.0 slots c.in-Ok.i) c.as_slice.ensures.value c.in-Ok.ensures in
-    let alike = c.remove_end.ensures.bare ∙ ap bare c.index_mut.ensures.value in
-    let after = ends_changed _ c.args.o c.in-Ok.i there c.index_mut.result.now c.remove_end.new.self alike c.args.side in
-    subst (All (λ (l : EndList). length l.objects ≤ l.capacity)) (sym after) c.remove_end.ensures.shape.fits
+    subst HaveShape (sym after) c.remove_end.ensures.shape
 
 -- ---- an object that has no slot
 
@@ -70,17 +56,7 @@ returns-in-Err-clause-there c =
     let none = ends_at_goes c.args.self.now c.args.o c.in-Err.field-0 out c.args.side in
     subst (λ ends. DropsEnd ends ends c.args.r c.args.other) (sym none) (record { there = refl; others = λ s apart. refl })
 
-pub returns-in-Err-clause-references_rise : goal.returns-in-Err-clause-references_rise
-returns-in-Err-clause-references_rise c =
+pub returns-in-Err-clause-shape : goal.returns-in-Err-clause-shape
+returns-in-Err-clause-shape c =
     let out = subst (λ slots. GoesAt slot_number c.args.o.0 slots c.in-Err.field-0) (c.as_slice.ensures.value ∙ c.self.view_is) c.in-Err.ensures in
-    subst ReferencesRise (sym (ends_at_goes c.args.self.now c.args.o c.in-Err.field-0 out c.args.side)) HaveShape_none.references_rise
-
-pub returns-in-Err-clause-objects_rise : goal.returns-in-Err-clause-objects_rise
-returns-in-Err-clause-objects_rise c =
-    let out = subst (λ slots. GoesAt slot_number c.args.o.0 slots c.in-Err.field-0) (c.as_slice.ensures.value ∙ c.self.view_is) c.in-Err.ensures in
-    subst (All (λ (l : EndList). ObjectsRise l.objects)) (sym (ends_at_goes c.args.self.now c.args.o c.in-Err.field-0 out c.args.side)) HaveShape_none.objects_rise
-
-pub returns-in-Err-clause-fits : goal.returns-in-Err-clause-fits
-returns-in-Err-clause-fits c =
-    let out = subst (λ slots. GoesAt slot_number c.args.o.0 slots c.in-Err.field-0) (c.as_slice.ensures.value ∙ c.self.view_is) c.in-Err.ensures in
-    subst (All (λ (l : EndList). length l.objects ≤ l.capacity)) (sym (ends_at_goes c.args.self.now c.args.o c.in-Err.field-0 out c.args.side)) HaveShape_none.fits
+    subst HaveShape (sym (ends_at_goes c.args.self.now c.args.o c.in-Err.field-0 out c.args.side)) HaveShape_none
