@@ -28,7 +28,8 @@ use Rattle.vt_slots.specs.declared.slot.Slot.{Slot}
 use Rattle.vt_graph.specs.Inside.Stored.{model_of, live_object}
 use Rattle.vt_graph.specs.Inside.Planned.{listing}
 use Rattle.vt_graph.specs.Inside.Ended.{AllEndsRise}
-use Rattle.vt_graph.specs.Inside.Rowed.{targets_in, target_rows, link_rows}
+use Rattle.vt_graph.specs.Inside.Rowed.{targets_in, target_rows, object_rows, rows_listed}
+use Rattle.vt_graph.specs.declared.rows.Listed.TheVariants.{Reference}
 use Rattle.vt_facts.proofs.RisingLemmas.{same_items, rises-none, rises-cons, first_below, rest_rises}
 use Rattle.vt_facts.proofs.ChosenLemmas.{Contains-flat_map, Contains-from_flat_map, Contains-from_filter_map, rises-flat_map}
 use Rattle.vt_graph.proofs.SlotLemmas.{equal_numbers, slot_at_stands, slot_at_number}
@@ -61,30 +62,27 @@ module _ (slots : List Slot) (rise : NumbersRise slots) (ends : AllEndsRise slot
       by None = refl
       by (Some body) = refl
 
-  abbrev object_rows : ObjId → List (List Value)
-  object_rows o = target_rows o (targets_in r (body_at slots o))
-
   -- a listing with each object that has a target
   abbrev pub CoversSources : List ObjId → Type 0
   CoversSources objects = (o x : ObjId) → Contains (objects_of (ends_at slots o Outgoing) r) x → Contains objects o
 
-  link_rows_rise : (objects : List ObjId) → ObjectsRise objects → IsStrictlySortedBy tuple_cmp (link_rows slots r objects)
-  link_rows_rise objects up = rises-flat_map number_order tuple_cmp object_rows objects up
+  reference_rows_rise : (objects : List ObjId) → ObjectsRise objects → IsStrictlySortedBy tuple_cmp (rows_listed slots (Reference r) objects)
+  reference_rows_rise objects up = rises-flat_map number_order tuple_cmp (object_rows slots (Reference r)) objects up
       (λ o there. target_rows_rise o (targets_in r (body_at slots o)) (subst ObjectsRise (sym (targets_at o)) (objects_of_rise (ends_at slots o Outgoing) (ends o Outgoing) r))) below
     where
-      below : (o p : ObjId) (x y : List Value) → number_order o p ≡ Less → Contains (object_rows o) x → Contains (object_rows p) y → tuple_cmp x y ≡ Less
+      below : (o p : ObjId) (x y : List Value) → number_order o p ≡ Less → Contains (object_rows slots (Reference r) o) x → Contains (object_rows slots (Reference r) p) y → tuple_cmp x y ≡ Less
       below o p x y less first second =
           let one = Contains-from_map (λ target. Obj o ∷ Obj target ∷ []) (targets_in r (body_at slots o)) x first in
           let other = Contains-from_map (λ target. Obj p ∷ Obj target ∷ []) (targets_in r (body_at slots p)) y second in
           ap (λ row. tuple_cmp row y) (sym one.2) ∙ ap (tuple_cmp (Obj o ∷ Obj one.0 ∷ [])) (sym other.2) ∙ pair_below o p (Obj one.0) (Obj other.0) less
 
-  pub link_rows_are : (next : ℕ) (objects : List ObjId) → ObjectsRise objects → CoversSources objects → link_rows slots r objects ≡ reference_rows (model_of next slots) r
-  link_rows_are next objects up covers = same_items tuple_cmp IsTotalOrder-tuple_cmp (link_rows slots r objects) (reference_rows (model_of next slots) r)
-      (link_rows_rise objects up) (Ascends-reference_rows (model_of next slots) r (links_rise slots rise ends)) forth back
+  pub reference_rows_are : (next : ℕ) (objects : List ObjId) → ObjectsRise objects → CoversSources objects → rows_listed slots (Reference r) objects ≡ reference_rows (model_of next slots) r
+  reference_rows_are next objects up covers = same_items tuple_cmp IsTotalOrder-tuple_cmp (rows_listed slots (Reference r) objects) (reference_rows (model_of next slots) r)
+      (reference_rows_rise objects up) (Ascends-reference_rows (model_of next slots) r (links_rise slots rise ends)) forth back
     where
-      forth : (row : List Value) → Contains (link_rows slots r objects) row → Contains (reference_rows (model_of next slots) r) row
+      forth : (row : List Value) → Contains (rows_listed slots (Reference r) objects) row → Contains (reference_rows (model_of next slots) r) row
       forth row there =
-          let at = Contains-from_flat_map object_rows objects row there in
+          let at = Contains-from_flat_map (object_rows slots (Reference r)) objects row there in
           let target = Contains-from_map (λ x. Obj at.0 ∷ Obj x ∷ []) (targets_in r (body_at slots at.0)) row at.2 in
           let listed = subst (λ all. Contains all target.0) (targets_at at.0) target.1 in
           subst (Contains (reference_rows (model_of next slots) r)) target.2
@@ -92,7 +90,7 @@ module _ (slots : List Slot) (rise : NumbersRise slots) (ends : AllEndsRise slot
           (Contains-filter (λ (link : Link). link.reference.0 == r.0) (all_links slots) (from_to at.0 r target.0)
           (listed_link slots rise ends (from_to at.0 r target.0) listed) (eq-eqb r.0 r.0 refl)))
 
-      back : (row : List Value) → Contains (reference_rows (model_of next slots) r) row → Contains (link_rows slots r objects) row
+      back : (row : List Value) → Contains (reference_rows (model_of next slots) r) row → Contains (rows_listed slots (Reference r) objects) row
       back row there =
           let at = Contains-from_map row_of_link (filter (λ (link : Link). link.reference.0 == r.0) (all_links slots)) row there in
           let parts = Contains-from_filter (λ (link : Link). link.reference.0 == r.0) (all_links slots) at.0 at.1 in
@@ -100,8 +98,8 @@ module _ (slots : List Slot) (rise : NumbersRise slots) (ends : AllEndsRise slot
           let listed : Contains (objects_of (ends_at slots at.0.source Outgoing) r) at.0.target =
           subst (λ s. Contains (objects_of (ends_at slots at.0.source Outgoing) s) at.0.target) own (link_listed slots rise ends at.0 parts.0) in
           let targets : Contains (targets_in r (body_at slots at.0.source)) at.0.target = subst (λ all. Contains all at.0.target) (sym (targets_at at.0.source)) listed in
-          Contains-flat_map object_rows objects at.0.source row (covers at.0.source at.0.target listed)
-          (subst (Contains (object_rows at.0.source)) at.2
+          Contains-flat_map (object_rows slots (Reference r)) objects at.0.source row (covers at.0.source at.0.target listed)
+          (subst (Contains (object_rows slots (Reference r) at.0.source)) at.2
           (Contains-map (λ x. Obj at.0.source ∷ Obj x ∷ []) (targets_in r (body_at slots at.0.source)) at.0.target targets))
 
   -- an object with a target has a slot

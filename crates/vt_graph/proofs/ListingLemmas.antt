@@ -1,5 +1,5 @@
 -- The listings of classes, after an object was added or taken out.
-use Rattle.std.proofs.Common.{◌≡◌, ◌≢◌, ℕ, zero, suc, ◌+◌, ◌-◌, ◌<◌, ◌≤◌, ◌==◌, List, [], ◌∷◌, ◌++◌, length, map, set, get_or, take, filter, refl, sym, ap, subst, ◌∙◌, ◌⊎◌, inl, inr, cond, Bool, true, false, arith, Option, Some, length-set, length-append}
+use Rattle.std.proofs.Common.{◌≡◌, ◌≢◌, ℕ, suc, ◌+◌, ◌-◌, ◌<◌, ◌≤◌, ◌==◌, List, [], ◌∷◌, ◌++◌, length, map, set, get_or, take, filter, refl, sym, ap, subst, ◌∙◌, ◌⊎◌, inl, inr, cond, Bool, true, false, arith, Option, Some, length-set, length-append}
 use Rattle.std.specs.Prelude.{Contains, All, slice_get}
 use Rattle.std.specs.List.Sorted.{IsStrictlySortedBy}
 use Rattle.std.specs.Ordering.{nat_cmp}

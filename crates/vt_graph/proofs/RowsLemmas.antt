@@ -1,6 +1,6 @@
 -- The rows that are read from slots are those of the model.
-use Rattle.std.proofs.Common.{◌≡◌, ℕ, List, [], ◌∷◌, map, filter, refl, sym, ap, subst, ◌∙◌, cond, Bool, true, false, eq-eqb}
-use Rattle.std.specs.Prelude.{Contains, slice_get, is_some, ◌==◌, Option, Some, None, option_map, option_and_then}
+use Rattle.std.proofs.Common.{◌≡◌, ℕ, List, [], ◌∷◌, ◌++◌, map, filter, refl, sym, ap, subst, ◌∙◌, cond, Bool, true, false, eq-eqb}
+use Rattle.std.specs.Prelude.{Contains, slice_get, is_some, ◌==◌, Option, Some, None, option_map, option_and_then, option_to_list}
 use Rattle.std.specs.List.{filter_map, cons_option}
 use Rattle.std.specs.List.Sorted.{IsStrictlySortedBy}
 use Rattle.std.specs.declared.cmp.Ordering.TheVariants.{Less}
@@ -28,7 +28,8 @@ use Rattle.vt_slots.specs.declared.slot.Slot.{Slot}
 use Rattle.vt_graph.specs.Inside.Stored.{model_of, live_object}
 use Rattle.vt_graph.specs.Inside.Planned.{attributes_had, listing}
 use Rattle.vt_graph.specs.Inside.Indexed.{IsIndexed}
-use Rattle.vt_graph.specs.Inside.Rowed.{live_rows, value_row, value_rows}
+use Rattle.vt_graph.specs.Inside.Rowed.{value_row, rows_listed}
+use Rattle.vt_graph.specs.declared.rows.Listed.TheVariants.{Class, Attribute}
 use Rattle.vt_facts.proofs.RisingLemmas.{same_items}
 use Rattle.vt_facts.proofs.ChosenLemmas.{Contains-filter_map, Contains-from_filter_map, rises-filter_map}
 use Rattle.vt_graph.proofs.SlotLemmas.{equal_numbers, slot_at_stands, slot_at_number, slot_at_is, body_at_found}
@@ -49,6 +50,18 @@ module _ (slots : List Slot) (rise : NumbersRise slots) where
   body_at_own s there = body_at_found slots s.number s (slot_at_is slots s.number rise s there refl)
 
 -- ---- the rows of a class
+
+-- a row for each object of a listing that is live
+abbrev live_rows : List Slot → List ObjId → List (List Value)
+live_rows slots objects = map (λ o. Obj o ∷ []) (filter (λ o. is_some (body_at slots o)) objects)
+
+rows_listed-class : (slots : List Slot) (c : ClassId) (objects : List ObjId) → rows_listed slots (Class c) objects ≡ live_rows slots objects
+rows_listed-class slots c [] = refl
+rows_listed-class slots c (o ∷ objects) = elim (is_some (body_at slots o))
+    as (λ b. cond b ((Obj o ∷ []) ∷ []) [] ++ rows_listed slots (Class c) objects ≡ map (λ p. Obj p ∷ []) (cond b (o ∷ filter (λ p. is_some (body_at slots p)) objects) (filter (λ p. is_some (body_at slots p)) objects))) [
+      | true ↦ ap (λ rows. (Obj o ∷ []) ∷ rows) (rows_listed-class slots c objects)
+      | false ↦ rows_listed-class slots c objects
+    ]
 
 -- the object that a slot with a body gives
 abbrev object_with : Slot → Option Body → Option Object
@@ -86,10 +99,23 @@ live_rows_among slots meta c (s ∷ some) own =
         ∙ sym (ap (λ z. map (λ (x : Object). Obj x.number ∷ []) (cond z (record { number = s.number; name = s.name; class = s.class } ∷ filter (λ (x : Object). isa meta x.class c) rest) (filter (λ (x : Object). isa meta x.class c) rest))) e)
     by more false e None is = more
 
-pub live_rows_are : (meta : Metamodel) (next : ℕ) (slots : List Slot) → NumbersRise slots → (c : ClassId) → live_rows slots (listing meta slots c) ≡ class_rows meta (model_of next slots) c
-live_rows_are meta next slots rise c = live_rows_among slots meta c slots (body_at_own slots rise)
+pub class_rows_are : (meta : Metamodel) (next : ℕ) (slots : List Slot) → NumbersRise slots → (c : ClassId) → rows_listed slots (Class c) (listing meta slots c) ≡ class_rows meta (model_of next slots) c
+class_rows_are meta next slots rise c = rows_listed-class slots c (listing meta slots c) ∙ live_rows_among slots meta c slots (body_at_own slots rise)
 
 -- ---- the rows of an attribute
+
+-- a row for each object of a listing that has a value
+abbrev value_rows : List Slot → AttrId → List ObjId → List (List Value)
+value_rows slots a objects = filter_map (λ o. value_row o (slot_value slots o a)) objects
+
+rows_listed-attribute : (slots : List Slot) (a : AttrId) (objects : List ObjId) → rows_listed slots (Attribute a) objects ≡ value_rows slots a objects
+rows_listed-attribute slots a [] = refl
+rows_listed-attribute slots a (o ∷ objects) = by (rows_listed-attribute slots a objects) (value_row o (slot_value slots o a))
+  where
+    by : rows_listed slots (Attribute a) objects ≡ value_rows slots a objects → (r : Option (List Value))
+        → option_to_list r ++ rows_listed slots (Attribute a) objects ≡ cons_option r (value_rows slots a objects)
+    by rest None = rest
+    by rest (Some row) = ap (λ rows. row ∷ rows) rest
 
 -- the row of a value has its object first
 value_row_is : (o : ObjId) (r : Option Value) (row : List Value) → value_row o r ≡ Some row → (v : Value) × (r ≡ Some v) × (row ≡ Obj o ∷ v ∷ [])
@@ -116,8 +142,8 @@ module _ (slots : List Slot) (rise : NumbersRise slots) (each : ValuesRise slots
           let other = value_row_is p (slot_value slots p a) y second in
           ap (λ row. tuple_cmp row y) one.2 ∙ ap (tuple_cmp (Obj o ∷ one.0 ∷ [])) other.2 ∙ pair_below o p one.0 other.0 less
 
-  pub value_rows_are : (next : ℕ) (objects : List ObjId) → ObjectsRise objects → Covers objects → value_rows slots a objects ≡ attribute_rows (model_of next slots) a
-  value_rows_are next objects up covers = same_items tuple_cmp IsTotalOrder-tuple_cmp (value_rows slots a objects) (attribute_rows (model_of next slots) a)
+  pub attribute_rows_are : (next : ℕ) (objects : List ObjId) → ObjectsRise objects → Covers objects → rows_listed slots (Attribute a) objects ≡ attribute_rows (model_of next slots) a
+  attribute_rows_are next objects up covers = rows_listed-attribute slots a objects ∙ same_items tuple_cmp IsTotalOrder-tuple_cmp (value_rows slots a objects) (attribute_rows (model_of next slots) a)
       (value_rows_rise objects up) (Ascends-attribute_rows (model_of next slots) a (slot_values_rise slots rise each)) forth back
     where
       forth : (row : List Value) → Contains (value_rows slots a objects) row → Contains (attribute_rows (model_of next slots) a) row

@@ -4,5 +4,6 @@ pub mod Asked
 pub mod Having
 pub mod Room
 pub mod Passing
+pub mod Listing
 -- words of private clauses alone
 pub mod Inside

@@ -21,4 +21,5 @@ mod values;
 pub use buried::Buried;
 pub use graph::Graph;
 pub use made::default_value;
+pub use rows::Listed;
 pub use seen::Seen;

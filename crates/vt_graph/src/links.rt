@@ -1,14 +1,14 @@
 // Links, at both ends of each.
-ghost use Rattle.std.specs.Prelude.{◌≡◌, not, All, Contains, filter, map, option_map, IsSome, IsOk, OnOk, OnErr};
+ghost use Rattle.std.specs.Prelude.{◌≡◌, not, All, Contains, filter, option_map, IsSome, IsOk, OnOk, OnErr};
 ghost use Rattle.std.specs.BTreeSet.{insert_key};
 ghost use Rattle.std.specs.Option.{option_copied};
 ghost use Rattle.vt_model.specs.Linking.{link_order, is_link};
 ghost use Rattle.vt_slots.specs.Ends.{ReferencesRise, ObjectsRise, objects_of};
-ghost use Rattle.vt_slots.specs.Slots.{body_at, ends_on, ends_at, bare};
+ghost use Rattle.vt_slots.specs.Slots.{body_at, ends_on, ends_at};
 ghost use Rattle.vt_slots.specs.declared.slot.Side.TheVariants.{Outgoing, Incoming};
 ghost use Rattle.vt_graph.specs.Asked.{live_at, others_at};
 ghost use Rattle.vt_graph.specs.Room.{KeepsRoom, HasRoomFor};
-ghost use Rattle.vt_graph.specs.Inside.Ended.{AllEndsRise, AllEndsFit, AddsLink, DropsLink, SameObjects, AllKeepRoom, HasRoomAt};
+ghost use Rattle.vt_graph.specs.Inside.Ended.{AreInShape, ChangesOnlyEnds, AddsLink, DropsLink, SameObjects, HasRoomAt};
 
 use crate::graph::Graph;
 use vt_base::{NoMemory, ObjId, RefId};
@@ -82,15 +82,11 @@ fn ends_of(slots: &Slots, o: ObjId, side: Side) -> Option<&Ends>
 fn add_ends(slots: &mut Slots, link: Link) -> Result<(), NoMemory>
     requires source { IsSome (body_at slots.old link.source) }
     requires target { IsSome (body_at slots.old link.target) }
-    requires rise { AllEndsRise slots.old }
-    requires fit { AllEndsFit slots.old }
+    requires shape { AreInShape slots.old }
     requires fresh { Contains (objects_of (ends_at slots.old link.source Outgoing) link.reference) link.target → ⊥ }
-    ensures bare { map bare slots.new ≡ map bare slots.old }
+    ensures ends { ChangesOnlyEnds slots.old slots.new }
     ensures added { OnOk result (AddsLink slots.old slots.new link) }
     ensures unchanged { OnErr result (SameObjects slots.old slots.new) }
-    ensures room { AllKeepRoom slots.old slots.new }
-    ensures rise { AllEndsRise slots.new }
-    ensures fit { AllEndsFit slots.new }
     ensures succeeds { HasRoomAt slots.old link.source Outgoing link.reference → HasRoomAt slots.old link.target Incoming link.reference → IsOk result }
 {
     slots.insert_end(link.source, Side::Outgoing, link.reference, link.target)?;
@@ -105,13 +101,9 @@ fn add_ends(slots: &mut Slots, link: Link) -> Result<(), NoMemory>
 
 // Drops a link from both its ends.
 fn drop_ends(slots: &mut Slots, link: Link)
-    requires rise { AllEndsRise slots.old }
-    requires fit { AllEndsFit slots.old }
-    ensures bare { map bare slots.new ≡ map bare slots.old }
+    requires shape { AreInShape slots.old }
+    ensures ends { ChangesOnlyEnds slots.old slots.new }
     ensures dropped { DropsLink slots.old slots.new link }
-    ensures room { AllKeepRoom slots.old slots.new }
-    ensures rise { AllEndsRise slots.new }
-    ensures fit { AllEndsFit slots.new }
 {
     slots.remove_end(link.source, Side::Outgoing, link.reference, link.target);
     slots.remove_end(link.target, Side::Incoming, link.reference, link.source);

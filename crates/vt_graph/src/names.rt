@@ -1,5 +1,4 @@
 // A graph as who knows the names that printed values need.
-ghost use Rattle.std.specs.Prelude.{◌≡◌};
 
 use crate::Graph;
 use vt_base::{Names, ObjId, Text};

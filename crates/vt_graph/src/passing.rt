@@ -1,9 +1,9 @@
 // Objects that come and go.
-ghost use Rattle.std.specs.Prelude.{◌≡◌, ◌<◌, ◌≤◌, false, length, Contains, IsSome, OnOk, OnErr, Some};
-ghost use Rattle.vt_model.specs.Creating.{is_taken, created};
+ghost use Rattle.std.specs.Prelude.{◌≡◌, ◌<◌, ◌≤◌, length, Contains, IsSome, OnOk, OnErr, Some};
+ghost use Rattle.vt_model.specs.Creating.{created};
 ghost use Rattle.vt_graph.specs.Asked.{live_at};
 ghost use Rattle.vt_graph.specs.Room.{KeepsRoom, KeepsOthersRoom, capacity_at, capacity_in, class_kept};
-ghost use Rattle.vt_graph.specs.Passing.{HasNoLinks, HasNoValues, IsLast, with_retracted, with_buried, with_raised};
+ghost use Rattle.vt_graph.specs.Passing.{HasNoLinks, HasNoValues, IsLast, IsNew, HasBuried, with_retracted, with_buried, with_raised};
 
 use crate::made::{list, new_body, unlist};
 use crate::{Buried, Graph};
@@ -21,9 +21,7 @@ impl Graph {
         class: ClassId,
         number: u32,
     ) -> Result<(), NoMemory>
-        requires free { is_taken self.old.model name.now ≡ false }
-        requires above { self.old.model.next ≤ number }
-        requires small { number < 1048576 }
+        requires fresh { IsNew self.old.model name.now number }
         requires there { class.0 < length self.old.meta.classes }
         ensures added { OnOk result (self.new.model ≡ created self.old.meta self.old.model name.now class number) }
         ensures unchanged { OnErr result (self.new.model ≡ self.old.model) }
@@ -64,14 +62,11 @@ impl Graph {
         requires live { IsSome (live_at self.old.model o) }
         requires no_links { HasNoLinks self.old.model o }
         requires no_values { HasNoValues self.old.model o }
-        ensures object { live_at self.old.model o ≡ Some result.object }
+        ensures was { HasBuried self.old o result }
         ensures buried { self.new.model ≡ with_buried self.old.model result.object }
-        ensures of_meta { result.meta ≡ self.old.meta }
         ensures meta { self.new.meta ≡ self.old.meta }
-        ensures own_room { (side : Side) (r : RefId) → capacity_in result side r ≡ capacity_at self.old.places o side r }
         ensures room { KeepsOthersRoom o self.old.places self.new.places }
         ensures class { class_kept self.new.places o ≡ Some result.object.class }
-        ensures was { class_kept self.old.places o ≡ Some result.object.class }
     {
         let slot = self.slots.at(o).unwrap();
         let object = Object {

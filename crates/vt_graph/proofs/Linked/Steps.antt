@@ -8,7 +8,7 @@ use Rattle.vt_base.specs.declared.numbers.ObjId.{ObjId}
 use Rattle.vt_base.specs.declared.numbers.RefId.{RefId}
 use Rattle.vt_model.specs.declared.model.Link.{Link}
 use Rattle.vt_facts.proofs.MemberLemmas.{Contains-filter, Contains-from_filter, Contains-insert_key_cases, Contains-insert_key_old}
-use Rattle.vt_slots.specs.Ends.{EndList, number_order, ObjectsRise, objects_of, AddsEnd, DropsEnd, SameEnds, KeepsRoom, SameRoom}
+use Rattle.vt_slots.specs.Ends.{EndList, number_order, ObjectsRise, objects_of, AddsEnd, DropsEnd, SameEnds, KeepsRoom, SameRoom, HaveShape}
 use Rattle.vt_slots.specs.Slots.{slot_at, body_at, ends_at, bare, bare_body, OtherEndsStay}
 use Rattle.vt_slots.specs.declared.slot.Side.{Side}
 use Rattle.vt_slots.specs.declared.slot.Side.TheVariants.{Outgoing, Incoming}
@@ -16,8 +16,7 @@ use Rattle.vt_slots.specs.declared.slot.Body.{Body}
 use Rattle.vt_slots.specs.declared.slot.Slot.{Slot}
 use Rattle.vt_slots.proofs.EndsLemmas.{rise_with_object, rise_without_object}
 use Rattle.vt_graph.specs.Asked.{other_of}
-use Rattle.vt_graph.specs.Inside.Indexed.{IsTwoEnded}
-use Rattle.vt_graph.specs.Inside.Ended.{EndsRise, AllEndsRise, EndsFit, AllEndsFit, near_of, ChangesEnds, AddsLink, SameObjects, AllKeepRoom}
+use Rattle.vt_graph.specs.Inside.Ended.{EndsRise, AllEndsRise, EndsFit, AreInShape, near_of, ChangesEnds, ChangesOnlyEnds, SameObjects}
 use Rattle.vt_facts.proofs.RisingLemmas.{same_items}
 use Rattle.vt_graph.proofs.SlotLemmas.{same_object, slot_at_changed}
 use Rattle.vt_graph.proofs.Linked.Ends.{number_order_total, objects_of_rise, reference_cases}
@@ -53,23 +52,26 @@ module _ (old new : List Slot) (o : ObjId) (side : Side) (stay : OtherEndsStay o
       by (inl is) = subst (λ q. P (ends_at old q t) (ends_at new q t)) (sym is.0) (subst (λ s. P (ends_at old o s) (ends_at new o s)) (sym is.1) here)
       by (inr apart) = subst (P (ends_at old p t)) (sym (stay p t apart)) (there p t)
 
-  pub rise_step : AllEndsRise old → EndsRise (ends_at new o side) → AllEndsRise new
-  rise_step rise changed = all_ends (λ before after. EndsRise after) changed rise
+  -- one step changes only ends, where it leaves them in shape and with their room
+  pub ends_step : map bare new ≡ map bare old → AreInShape old → HaveShape (ends_at new o side) → KeepsRoom (ends_at old o side) (ends_at new o side) → ChangesOnlyEnds old new
+  ends_step same shape changed room = record {
+    same = same;
+    shape = record {
+      rise = all_ends (λ before after. EndsRise after) (record { references = changed.references_rise; objects = changed.objects_rise }) shape.rise;
+      fit = all_ends (λ before after. EndsFit after) changed.fits shape.fit;
+    };
+    room = all_ends (λ before after. KeepsRoom before after) room (λ p t r. le_of_eq refl);
+  }
 
-  pub fits_step : AllEndsFit old → EndsFit (ends_at new o side) → AllEndsFit new
-  fits_step fit changed = all_ends (λ before after. EndsFit after) changed fit
-
-  pub room_step : KeepsRoom (ends_at old o side) (ends_at new o side) → AllKeepRoom old new
-  room_step room = all_ends (λ before after. KeepsRoom before after) room (λ p t r. le_of_eq refl)
-
-  pub room_same_step : SameRoom (ends_at old o side) (ends_at new o side) → AllKeepRoom old new
-  room_same_step room = room_step (λ r. le_of_eq (sym (room r)))
+  -- the same of a step that leaves just the room that was
+  pub ends_same_step : map bare new ≡ map bare old → AreInShape old → HaveShape (ends_at new o side) → SameRoom (ends_at old o side) (ends_at new o side) → ChangesOnlyEnds old new
+  ends_same_step same shape changed room = ends_step same shape changed (λ r. le_of_eq (sym (room r)))
 
   pub same_step : SameEnds (ends_at old o side) (ends_at new o side) → SameObjects old new
   same_step same = all_ends (λ before after. SameEnds before after) same (λ p t r. refl)
 
-pub room_then : (old mid new : List Slot) → AllKeepRoom old mid → AllKeepRoom mid new → AllKeepRoom old new
-room_then old mid new first second o side r = le_trans (first o side r) (second o side r)
+pub ends_then : (old mid new : List Slot) → ChangesOnlyEnds old mid → ChangesOnlyEnds mid new → ChangesOnlyEnds old new
+ends_then old mid new first second = record { same = second.same ∙ first.same; shape = second.shape; room = λ o side r. le_trans (first.room o side r) (second.room o side r) }
 
 -- ---- one step at the source, and then one at the target
 

@@ -1,10 +1,10 @@
 -- That the ends of all objects rise, and what a change of one link does to them.
-use Rattle.std.specs.Prelude.{◌≡◌, ◌<◌, ◌≤◌, List, All, length}
+use Rattle.std.specs.Prelude.{◌≡◌, ◌<◌, ◌≤◌, List, All, length, map}
 use Rattle.vt_base.specs.declared.numbers.ObjId.{ObjId}
 use Rattle.vt_base.specs.declared.numbers.RefId.{RefId}
 use Rattle.vt_model.specs.declared.model.Link.{Link}
 use Rattle.vt_slots.specs.Ends.{EndList, ReferencesRise, ObjectsRise, objects_of, capacity_of, AddsEnd, DropsEnd, SameEnds, KeepsRoom}
-use Rattle.vt_slots.specs.Slots.{ends_at}
+use Rattle.vt_slots.specs.Slots.{ends_at, bare}
 use Rattle.vt_slots.specs.declared.slot.Side.{Side}
 use Rattle.vt_slots.specs.declared.slot.Side.TheVariants.{Outgoing, Incoming}
 use Rattle.vt_slots.specs.declared.slot.Slot.{Slot}
@@ -25,6 +25,11 @@ EndsFit lists = All (λ l. length l.objects ≤ l.capacity) lists
 
 abbrev pub AllEndsFit : List Slot → Type 0
 AllEndsFit slots = (o : ObjId) (side : Side) → EndsFit (ends_at slots o side)
+
+-- the ends of all objects rise, and fit in their room
+pub record AreInShape (slots : List Slot) : Type 0 where
+  pub rise : AllEndsRise slots
+  pub fit : AllEndsFit slots
 
 -- ---- what a change does
 
@@ -53,6 +58,12 @@ SameObjects old new = (o : ObjId) (side : Side) → SameEnds (ends_at old o side
 -- for no object, side and reference less room
 abbrev pub AllKeepRoom : List Slot → List Slot → Type 0
 AllKeepRoom old new = (o : ObjId) (side : Side) → KeepsRoom (ends_at old o side) (ends_at new o side)
+
+-- of the slots only ends change: these are in shape, and none has less room
+pub record ChangesOnlyEnds (old new : List Slot) : Type 0 where
+  pub same : map bare new ≡ map bare old
+  pub shape : AreInShape new
+  pub room : AllKeepRoom old new
 
 -- one more object of a reference fits without memory
 abbrev pub HasRoomAt : List Slot → ObjId → Side → RefId → Type 0

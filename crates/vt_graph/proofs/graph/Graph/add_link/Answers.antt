@@ -14,8 +14,8 @@ add_ends-requires-clause-source c = live_body _ _ _ _ c.self.view_is c.self.inva
 pub add_ends-requires-clause-target : goal.add_ends-requires-clause-target
 add_ends-requires-clause-target c = live_body _ _ _ _ c.self.view_is c.self.invariant.0 c.args.link.target c.requires.target
 
-pub add_ends-requires-clause-rise : goal.add_ends-requires-clause-rise
-add_ends-requires-clause-rise c = ends_rise _ _ _ c.self.invariant.0
+pub add_ends-requires-clause-shape : goal.add_ends-requires-clause-shape
+add_ends-requires-clause-shape c = record { rise = ends_rise _ _ _ c.self.invariant.0; fit = c.self.invariant.0.room }
 
 pub add_ends-requires-clause-fresh : goal.add_ends-requires-clause-fresh
 add_ends-requires-clause-fresh c there = c.requires.fresh (subst (λ (h : Held). Contains h.model.links c.args.link) c.self.view_is
@@ -23,21 +23,21 @@ add_ends-requires-clause-fresh c there = c.requires.fresh (subst (λ (h : Held).
 
 pub invariant_of-self : goal.invariant_of-self
 invariant_of-self c = (
-  indexed_same _ _ c.add_ends.ensures.bare _ _ c.self.invariant.0 c.add_ends.ensures.rise c.add_ends.ensures.fit (two_ended_either _ _ c.args.link c.add_ends.result c.add_ends.ensures.added c.add_ends.ensures.unchanged c.self.invariant.0.two_ended),
+  indexed_same _ _ c.add_ends.ensures.ends.same _ _ c.self.invariant.0 c.add_ends.ensures.ends.shape.rise c.add_ends.ensures.ends.shape.fit (two_ended_either _ _ c.args.link c.add_ends.result c.add_ends.ensures.added c.add_ends.ensures.unchanged c.self.invariant.0.two_ended),
   c.self.invariant.1,
-  listings_same _ _ c.add_ends.ensures.bare _ _ c.self.invariant.2,
+  listings_same _ _ c.add_ends.ensures.ends.same _ _ c.self.invariant.2,
 )
 
 pub returns-clause-added : goal.returns-clause-added
 returns-clause-added c = on_ok_weaker c.add_ends.result
-    (λ adds. model_added _ _ _ _ _ c.self.view_is c.self.invariant.0 c.add_ends.ensures.bare c.add_ends.ensures.rise c.args.link adds) c.add_ends.ensures.added
+    (λ adds. model_added _ _ _ _ _ c.self.view_is c.self.invariant.0 c.add_ends.ensures.ends.same c.add_ends.ensures.ends.shape.rise c.args.link adds) c.add_ends.ensures.added
 
 pub returns-clause-unchanged : goal.returns-clause-unchanged
 returns-clause-unchanged c = on_err_weaker c.add_ends.result
-    (λ stay. model_stays _ _ _ _ _ c.self.view_is c.self.invariant.0 c.add_ends.ensures.bare c.add_ends.ensures.rise stay) c.add_ends.ensures.unchanged
+    (λ stay. model_stays _ _ _ _ _ c.self.view_is c.self.invariant.0 c.add_ends.ensures.ends.same c.add_ends.ensures.ends.shape.rise stay) c.add_ends.ensures.unchanged
 
 pub returns-clause-room : goal.returns-clause-room
-returns-clause-room c = places_keep _ _ _ _ _ c.self.view_is c.self.invariant.0 c.add_ends.ensures.bare c.add_ends.ensures.rise c.add_ends.ensures.room
+returns-clause-room c = places_keep _ _ _ _ _ c.self.view_is c.self.invariant.0 c.add_ends.ensures.ends.same c.add_ends.ensures.ends.shape.rise c.add_ends.ensures.ends.room
 
 pub returns-clause-succeeds : goal.returns-clause-succeeds
 returns-clause-succeeds c source target = c.add_ends.ensures.succeeds

@@ -29,7 +29,7 @@ new_body-requires c =
 pub push-requires-clause-fresh : goal.push-requires-clause-fresh
 push-requires-clause-fresh c =
     let g = c.self.inside in
-    let free = subst (λ (h : Held). is_taken h.model c.args.name.now ≡ false) (sym c.self.view_is) c.requires.free in
+    let free = subst (λ (h : Held). is_taken h.model c.args.name.now ≡ false) (sym c.self.view_is) c.requires.fresh.free in
     ap (slot_named g.slots) c.share.ensures ∙ name_is_free g.next g.slots c.args.name.now g.meta c.self.invariant.0 free
 
 pub list-listed-requires : goal.list-listed-requires
@@ -68,7 +68,7 @@ there_inside : (c : goal.After-self-1) → c.args.class.0 < length c.self.inside
 there_inside c = subst (λ (h : Held). c.args.class.0 < length h.meta.classes) (sym c.self.view_is) c.requires.there
 
 above_inside : (c : goal.After-self-1) → c.self.inside.next ≤ c.args.number
-above_inside c = subst (λ (h : Held). h.model.next ≤ c.args.number) (sym c.self.view_is) c.requires.above
+above_inside c = subst (λ (h : Held). h.model.next ≤ c.args.number) (sym c.self.view_is) c.requires.fresh.above
 
 planned_inside : (c : goal.After-self-1) → c.index-plan.result.now ≡ plan_of c.self.inside.meta c.args.class
 planned_inside c = plan_found c.self.inside.meta c.self.inside.plans.items c.args.class c.from.result c.index-plan.result.now c.self.invariant.1 (there_inside c) c.from.ensures c.index-plan.ensures
@@ -82,10 +82,10 @@ pushed_inside c =
 pub invariant_of-self-2 : goal.invariant_of-self-2
 invariant_of-self-2 c =
     let g = c.self.inside in
-    let free = subst (λ (h : Held). is_taken h.model c.args.name.now ≡ false) (sym c.self.view_is) c.requires.free in
+    let free = subst (λ (h : Held). is_taken h.model c.args.name.now ≡ false) (sym c.self.view_is) c.requires.fresh.free in
     let listed = at_ok c.list-listed.result (sym c.if-is_err.ensures.value) c.list-listed.ensures.listed in (
       subst (IsIndexed g.meta (c.args.number + 1)) (sym (pushed_inside c))
-          (indexed_pushed g.meta g.next g.slots c.args.name.now c.args.class c.args.number c.self.invariant.0 (above_inside c) (there_inside c) c.requires.small free),
+          (indexed_pushed g.meta g.next g.slots c.args.name.now c.args.class c.args.number c.self.invariant.0 (above_inside c) (there_inside c) c.requires.fresh.small free),
       c.self.invariant.1,
       subst (λ slots. AreListings g.meta slots c.list-listed.new.listings.items) (sym (pushed_inside c))
           (subst (AreListings g.meta (pushed g.meta g.next g.slots c.args.name.now c.args.class c.args.number))

@@ -3,10 +3,12 @@ use Rattle.std.proofs.Common.{◌≡◌, List, sym, ap, subst, ◌∙◌, Some, 
 use Rattle.std.specs.Option.{option_copied}
 use Rattle.vt_model.specs.Metamodel.{Metamodel}
 use Rattle.vt_slots.specs.Slots.{slot_at}
+use Rattle.vt_base.specs.declared.numbers.RefId.{RefId}
+use Rattle.vt_slots.specs.declared.slot.Side.{Side}
 use Rattle.vt_slots.specs.declared.slot.Side.TheVariants.{Outgoing, Incoming}
 use Rattle.vt_graph.specs.Held.{Held, Place}
 use Rattle.vt_graph.specs.Asked.{live_at}
-use Rattle.vt_graph.specs.Room.{KeepsOthersRoom, capacity_at, class_kept}
+use Rattle.vt_graph.specs.Room.{KeepsOthersRoom, capacity_at, capacity_in, class_kept}
 use Rattle.vt_graph.specs.Passing.{HasNoLinks, HasNoValues, with_buried}
 use Rattle.vt_graph.specs.Inside.Stored.{places_of}
 use Rattle.vt_graph.specs.Inside.Spare.{IsSpare}
@@ -47,17 +49,10 @@ invariant_of-self c = ((buried_inside c).indexed, c.self.invariant.1, (buried_in
 pub invariant_of-result : goal.invariant_of-result
 invariant_of-result c = subst (λ (m : Metamodel). IsSpare m c.unwrap-slot.result.now.class c.unwrap-body.result) (sym c.share-2.ensures) (buried_inside c).spare
 
-pub returns-clause-object : goal.returns-clause-object
-returns-clause-object c = sym (ap (λ (h : Held). live_at h.model c.args.o) c.self.view_is) ∙ (buried_inside c).object
-
 pub returns-clause-buried : goal.returns-clause-buried
 returns-clause-buried c =
     (buried_inside c).model
     ∙ ap (λ (h : Held). with_buried h.model (record { number = c.unwrap-slot.result.now.number; name = c.share.result; class = c.unwrap-slot.result.now.class })) c.self.view_is
-
-pub returns-clause-own_room : goal.returns-clause-own_room
-returns-clause-own_room c Outgoing r = (buried_inside c).own_room Outgoing r ∙ ap (λ (h : Held). capacity_at h.places c.args.o Outgoing r) c.self.view_is
-returns-clause-own_room c Incoming r = (buried_inside c).own_room Incoming r ∙ ap (λ (h : Held). capacity_at h.places c.args.o Incoming r) c.self.view_is
 
 pub returns-clause-room : goal.returns-clause-room
 returns-clause-room c = subst (λ (places : List Place). KeepsOthersRoom c.args.o places (places_of c.take_body.new.self)) (ap (λ (h : Held). h.places) c.self.view_is) (buried_inside c).room
@@ -66,4 +61,13 @@ pub returns-clause-class : goal.returns-clause-class
 returns-clause-class c = (buried_inside c).class
 
 pub returns-clause-was : goal.returns-clause-was
-returns-clause-was c = sym (ap (λ (h : Held). class_kept h.places c.args.o) c.self.view_is) ∙ (buried_inside c).was
+returns-clause-was c = record {
+  meta = c.share-2.ensures ∙ ap (λ (h : Held). h.meta) c.self.view_is;
+  object = sym (ap (λ (h : Held). live_at h.model c.args.o) c.self.view_is) ∙ (buried_inside c).object;
+  class = sym (ap (λ (h : Held). class_kept h.places c.args.o) c.self.view_is) ∙ (buried_inside c).was;
+  room = own_room;
+}
+  where
+    own_room : (side : Side) (r : RefId) → capacity_in (record { meta = c.share-2.result; object = record { number = c.unwrap-slot.result.now.number; name = c.share.result; class = c.unwrap-slot.result.now.class }; outgoing = c.unwrap-body.result.outgoing; incoming = c.unwrap-body.result.incoming }) side r ≡ capacity_at c.args.self.now.places c.args.o side r
+    own_room Outgoing r = (buried_inside c).own_room Outgoing r ∙ ap (λ (h : Held). capacity_at h.places c.args.o Outgoing r) c.self.view_is
+    own_room Incoming r = (buried_inside c).own_room Incoming r ∙ ap (λ (h : Held). capacity_at h.places c.args.o Incoming r) c.self.view_is
