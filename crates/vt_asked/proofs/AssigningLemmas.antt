@@ -1,6 +1,6 @@
 -- What Set and Unset come to once their names are looked up.
 use Rattle.std.proofs.Common.{◌≡◌, ℕ, List, [], ◌∷◌, true, false, Some, None, refl, ap, not, ◌∙◌, Bool}
-use Rattle.std.specs.Prelude.{Contains, Option, Ok, Err, is_none, option_map}
+use Rattle.std.specs.Prelude.{Option, Ok, Err, is_none, option_map}
 use Rattle.vt_base.specs.declared.numbers.AttrId.{AttrId}
 use Rattle.vt_base.specs.declared.value.Value.{Value}
 use Rattle.vt_base.specs.declared.value.Kind.{Kind}

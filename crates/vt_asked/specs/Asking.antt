@@ -1,6 +1,5 @@
 -- What is tested before a link is made, moved or taken away.
-use Rattle.std.specs.Prelude.{ℕ, ◌||◌, List, [], ◌∷◌, Bool, not, is_none, Option, Result, false}
-use Rattle.std.specs.Option.{option_map_or}
+use Rattle.std.specs.Prelude.{ℕ, ◌||◌, List, [], ◌∷◌, Bool, not, is_none, Result}
 use Rattle.vt_model.specs.Metamodel.{Metamodel}
 use Rattle.vt_model.specs.Model.{Model, object_named, never_existed, was_deleted, feature_at}
 use Rattle.vt_model.specs.Linking.{reference_of, is_target, linked}

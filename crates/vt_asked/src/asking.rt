@@ -6,7 +6,6 @@ ghost use Rattle.vt_model.specs.Effect.{link_asked};
 ghost use Rattle.vt_model.specs.Fits.{FitsReference};
 ghost use Rattle.vt_model.specs.Valid.{IsValid};
 ghost use Rattle.vt_model.specs.declared.change.Refusal.TheVariants as refusal;
-ghost use Rattle.vt_model.specs.declared.model.Object.{Object};
 ghost use Rattle.vt_asked.specs.Asking.{link_tests, move_tests};
 ghost use Rattle.vt_facts.specs.Firsts.{first_of};
 

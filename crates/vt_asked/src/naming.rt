@@ -1,6 +1,6 @@
 // The live objects that a change names.
 ghost use Rattle.std.specs.Prelude.{◌≡◌, ◌||◌, [], ◌∷◌, IfOk, IfErr, IsOk, Some};
-ghost use Rattle.vt_model.specs.Model.{object_named, never_existed, was_deleted};
+ghost use Rattle.vt_model.specs.Model.{never_existed, was_deleted};
 ghost use Rattle.vt_facts.specs.Firsts.{first_of};
 ghost use Rattle.vt_model.specs.Valid.{IsValid};
 ghost use Rattle.vt_model.specs.declared.change.Refusal.TheVariants as refusal;
