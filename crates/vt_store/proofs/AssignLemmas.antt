@@ -3,26 +3,24 @@ use Rattle.std.proofs.Common.{◌≡◌, List, [], ◌∷◌, refl, sym, ap, sub
 use Rattle.std.specs.Prelude.{Contains, Decides, filter, find, option_map, if◌then◌else◌, Option, None, Some}
 use Rattle.std.specs.BTreeSet.{insert_key}
 use Rattle.std.specs.List.Sorted.{IsStrictlySortedBy}
-use Rattle.std.specs.Ordering.{eq_by_cmp}
 use Rattle.std.specs.declared.cmp.Ordering.TheVariants.{Equal}
 use Rattle.std.proofs.lemmas.Bool.{both_ways, not-true, not_from_false}
 use Rattle.std.proofs.lemmas.Bool.Decides.{nat_tests}
 use Rattle.std.proofs.Common.{arith}
 use Rattle.std.proofs.lemmas.List.Kept.{IsStrictlySortedBy-filter}
-use Rattle.vt_base.specs.Order.{value_cmp}
 use Rattle.vt_base.specs.Inside.OrderLaws.{IsTotalOrder-value_cmp}
 use Rattle.vt_base.proofs.OrderLemmas.{exact-value_cmp, eq_by_cmp-Decides}
 use Rattle.vt_base.specs.declared.numbers.ObjId.{ObjId}
 use Rattle.vt_base.specs.declared.numbers.AttrId.{AttrId}
 use Rattle.vt_base.specs.declared.value.Value.{Value}
 use Rattle.vt_model.specs.Model.{Model}
-use Rattle.vt_model.specs.Assigning.{value_order, is_value_of, without_value, with_value, with_default_value}
+use Rattle.vt_model.specs.Assigning.{value_order, is_value_of, with_default_value}
 use Rattle.vt_model.specs.declared.model.AttributeValue.{AttributeValue}
 use Rattle.vt_facts.proofs.MemberLemmas.{Contains-nil, Contains-head, Contains-find, find-some, Contains-filter, Contains-from_filter, Contains-insert_key_cases, Contains-insert_key_old}
 use Rattle.vt_facts.proofs.OrderedLemmas.{IsStrictlySortedBy-insert_key}
 use Rattle.vt_model.proofs.Valid.Defaults.{is_value_of-yes}
 use Rattle.vt_graph.specs.Asked.{value_at}
-use Rattle.vt_store.specs.Edits.{ListChange, same_object, same_gone, same_value, same_link, net, edit_of}
+use Rattle.vt_store.specs.Edits.{same_object, same_gone, same_value, same_link, net, edit_of}
 use Rattle.vt_store.specs.Inside.Displaced.{no_change}
 use Rattle.vt_store.specs.Inside.Assigned.{same_given, held_value, value_change, values_edit}
 use Rattle.vt_store.proofs.EditLemmas.{known}

@@ -11,7 +11,6 @@ use Rattle.vt_model.specs.Storable.{GivesStorable}
 use Rattle.vt_model.specs.Valid.{IsValid}
 use Rattle.vt_model.specs.declared.model.Object.{Object}
 use Rattle.vt_model.specs.declared.change.Change.{Change}
-use Rattle.vt_model.specs.declared.change.Change.TheVariants.{Set, Unset}
 use Rattle.vt_graph.specs.Held.{Held}
 use Rattle.vt_graph.specs.Asked.{value_at}
 use Rattle.vt_graph.specs.Room.{KeepsRoom, HasRoom}

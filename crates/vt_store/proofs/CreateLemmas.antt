@@ -1,6 +1,6 @@
 -- What creating an object puts into a model.
 use Rattle.std.proofs.Common.{◌++◌, ◌≡◌, ℕ, List, [], ◌∷◌, refl, sym, ap, subst, ◌∙◌, arith}
-use Rattle.std.specs.Prelude.{◌<◌, ◌≤◌, length, position, option_map, Option, None, Some, All, Contains, Ok, Err}
+use Rattle.std.specs.Prelude.{◌<◌, ◌≤◌, length, position, option_map, Option, None, Some, Contains, Ok, Err}
 use Rattle.vt_facts.specs.Names.{is_name}
 use Rattle.vt_facts.proofs.PositionLemmas.{IsAt-position}
 use Rattle.vt_graph.specs.Held.{Held}

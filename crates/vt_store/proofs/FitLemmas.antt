@@ -1,14 +1,11 @@
 -- Edits that fit: those that changes make, and those that fitted before there was more room.
-use Rattle.std.proofs.Common.{arith, true, ◌≡◌, ℕ, List, [], ◌∷◌, ◌++◌, refl, sym, ap, subst, ◌∙◌, ◌⊎◌, inl, inr}
-use Rattle.std.specs.Prelude.{◌≤◌, ◌==◌, length, find, Contains, IsSome, is_some, Option, None, Some, option_map, unwrap_or}
+use Rattle.std.proofs.Common.{arith, true, ◌≡◌, ℕ, List, [], ◌++◌, refl, sym, ap, subst, ◌∙◌, inl, inr}
+use Rattle.std.specs.Prelude.{◌≤◌, ◌==◌, length, Contains, IsSome, is_some, Option, None, Some, option_map, unwrap_or}
 use Rattle.std.specs.Option.{option_or}
-use Rattle.std.proofs.lemmas.Bool.{eqb-true, eq-eqb, true≢false}
+use Rattle.std.proofs.lemmas.Bool.{eqb-true, true≢false}
 use Rattle.std.proofs.lemmas.List.Folds.{find-append}
 use Rattle.vt_base.specs.declared.numbers.ObjId.{ObjId}
-use Rattle.vt_base.specs.declared.numbers.ClassId.{ClassId}
 use Rattle.vt_base.specs.declared.numbers.RefId.{RefId}
-use Rattle.vt_model.specs.Metamodel.{Metamodel}
-use Rattle.vt_model.specs.Model.{Model}
 use Rattle.vt_model.specs.Valid.{IsValid}
 use Rattle.vt_model.specs.declared.model.Object.{Object}
 use Rattle.vt_facts.proofs.MemberLemmas.{Contains-find, find-some}
@@ -17,8 +14,8 @@ use Rattle.vt_slots.specs.declared.slot.Side.{Side}
 use Rattle.vt_graph.specs.Held.{Held, Place}
 use Rattle.vt_graph.specs.Asked.{live_at, gone_at, others_at}
 use Rattle.vt_graph.specs.Room.{place_at, class_kept, ends_of, capacity_at, HasRoom}
-use Rattle.vt_store.specs.Edits.{Edit, same_object, edit_of, undone}
-use Rattle.vt_store.specs.Undoing.{HeldEdit, KeepsRoomOf, HasRoomBack, Fits}
+use Rattle.vt_store.specs.Edits.{same_object, edit_of, undone}
+use Rattle.vt_store.specs.Undoing.{HeldEdit, KeepsRoomOf, Fits}
 use Rattle.vt_store.proofs.NetLemmas.{stands_or_went}
 use Rattle.vt_store.proofs.SameLemmas.{Decides-same_object}
 use Rattle.vt_store.proofs.UndoneLemmas.{undone-edit_of}

@@ -1,6 +1,6 @@
 -- What keeps a store's model valid.
 use Rattle.std.proofs.Common.{◌≡◌, ℕ, arith, refl, sym, subst}
-use Rattle.std.specs.Prelude.{◌≤◌, ◌<◌, All}
+use Rattle.std.specs.Prelude.{◌≤◌, ◌<◌}
 use Rattle.std.proofs.lemmas.List.Elements.{All-weaker}
 use Rattle.vt_graph.specs.Held.{Held}
 use Rattle.vt_store.specs.Edits.{undone}

@@ -5,3 +5,4 @@ pub mod Kept
 pub mod Levels
 pub mod Waiting
 pub mod Tested
+pub mod Leaving

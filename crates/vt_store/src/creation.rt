@@ -6,6 +6,7 @@ ghost use Rattle.vt_model.specs.Sound.{IsSound};
 ghost use Rattle.vt_model.specs.Valid.{IsValid};
 ghost use Rattle.vt_model.specs.declared.change.Change.TheVariants as change;
 ghost use Rattle.vt_model.specs.declared.change.Refusal.{Refusal};
+ghost use Rattle.vt_graph.specs.Passing.{IsNew};
 ghost use Rattle.vt_graph.specs.Room.{KeepsRoom};
 ghost use Rattle.vt_store.specs.Changing.{Makes};
 ghost use Rattle.vt_store.specs.Inside.Kept.{creation};
@@ -77,9 +78,7 @@ fn creation_asked(
     ensures made { IfOk result (λ object.
         effect graph.now.meta graph.now.model (change.Create name.now class.now number)
         ≡ Ok (created graph.now.meta graph.now.model name.now object.class object.number)) }
-    ensures free { IfOk result (λ _. is_taken graph.now.model name.now ≡ false) }
-    ensures above { IfOk result (λ object. graph.now.model.next ≤ object.number) }
-    ensures small { IfOk result (λ object. object.number < 1048576) }
+    ensures fresh { IfOk result (λ object. IsNew graph.now.model name.now object.number) }
     ensures there { IfOk result (λ object. object.class.0 < length graph.now.meta.classes) }
     ensures refused { IfErr result (λ e. (why : Refusal) → e ≡ fault.Refused why
         → effect graph.now.meta graph.now.model (change.Create name.now class.now number) ≡ Err why) }
@@ -138,9 +137,7 @@ fn add_object(
     name: &Text,
     asked: NewObject,
 ) -> Result<Edit, NoMemory>
-    requires free { is_taken graph.old.model name.now ≡ false }
-    requires above { graph.old.model.next ≤ asked.number }
-    requires small { asked.number < 1048576 }
+    requires fresh { IsNew graph.old.model name.now asked.number }
     requires there { asked.class.0 < length graph.old.meta.classes }
     ensures meta { graph.new.meta ≡ graph.old.meta }
     ensures made { OnOk result (graph.new.model ≡ created graph.old.meta graph.old.model name.now asked.class asked.number) }

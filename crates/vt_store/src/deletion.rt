@@ -8,12 +8,11 @@ ghost use Rattle.vt_model.specs.Sound.{IsSound};
 ghost use Rattle.vt_model.specs.Valid.{IsValid};
 ghost use Rattle.vt_model.specs.declared.change.Change.TheVariants as change;
 ghost use Rattle.vt_graph.specs.Asked.{live_at};
-ghost use Rattle.vt_graph.specs.Room.{KeepsRoom};
 ghost use Rattle.vt_store.specs.Changing.{Makes};
-ghost use Rattle.vt_store.specs.Edits.{edit_of};
 ghost use Rattle.vt_store.specs.Inside.Levels.{contained_in, children, level_below, levels_from, numbers, objects_inside, IsArranged, link_on, links_of, touches, AddsLinksAt, CollectsLinks, value_of, values_of, IsBare, CanBury};
 ghost use Rattle.vt_slots.specs.Ends.{number_order};
-ghost use Rattle.vt_store.specs.Inside.Waiting.{AddsBuried, BuriesAll, HasClasses};
+ghost use Rattle.vt_store.specs.Inside.Waiting.{AddsBuried, BuriesAll};
+ghost use Rattle.vt_store.specs.Inside.Leaving.{Deletes};
 
 use crate::displaced::{arrange, link_on};
 use crate::edit::Edit;
@@ -260,12 +259,7 @@ fn remove(graph: &mut Graph, alloc: Global, o: ObjId) -> Result<Edit, NoMemory>
     requires valid { IsValid graph.old.meta graph.old.model }
     requires live { IsSome (live_at graph.old.model o) }
     ensures meta { graph.new.meta ≡ graph.old.meta }
-    ensures made { OnOk result (graph.new.model ≡ deleted graph.old.meta graph.old.model o) }
-    ensures edit { IfOk result (λ edit. edit.edit ≡ edit_of graph.old.model (deleted graph.old.meta graph.old.model o)) }
-    ensures of { IfOk result (λ edit. edit.meta ≡ graph.old.meta) }
-    ensures kept { IfOk result (λ edit. HasClasses graph.new.places edit.edit.live.removed) }
-    ensures waits { IfOk result (λ edit. HasClasses edit.waiting edit.edit.live.removed) }
-    ensures room { IfOk result (λ edit. KeepsRoom graph.old.places (edit.waiting ++ graph.new.places)) }
+    ensures deleted { IfOk result (λ edit. Deletes o graph.old graph.new edit) }
     ensures unchanged { OnErr result (graph.new ≡ graph.old) }
 {
     let found = objects_inside(graph, alloc, o)?;

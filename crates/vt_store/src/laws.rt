@@ -1,6 +1,5 @@
 // What holds of what changes put in and take out.
 ghost use Rattle.std.specs.Prelude.{◌≡◌};
-ghost use Rattle.std.specs.List.Sorted.{IsStrictlySortedBy};
 ghost use Rattle.vt_model.specs.Metamodel.{Metamodel};
 ghost use Rattle.vt_model.specs.Model.{Model};
 ghost use Rattle.vt_model.specs.Valid.{IsValid};

@@ -1,5 +1,5 @@
 // What Link, Unlink and Move do.
-ghost use Rattle.std.specs.Prelude.{◌≡◌, [], fold, reverse, IfOk, OnOk, OnErr, All, Some, Ok, Err, filter};
+ghost use Rattle.std.specs.Prelude.{◌≡◌, [], fold, reverse, IfOk, OnOk, OnErr, Some, Ok, Err, filter};
 ghost use Rattle.vt_model.specs.Linking.{is_dropped, with_link, relinked, unlinked};
 ghost use Rattle.vt_model.specs.Containing.{is_circular};
 ghost use Rattle.vt_model.specs.declared.change.Refusal.{Refusal};
@@ -11,6 +11,7 @@ ghost use Rattle.vt_model.specs.Sound.{IsSound};
 ghost use Rattle.vt_model.specs.Valid.{IsValid};
 ghost use Rattle.vt_graph.specs.Room.{KeepsRoom};
 ghost use Rattle.vt_store.specs.Inside.Displaced.{NoneStands, links_edit, without_link, EndsLive};
+ghost use Rattle.vt_store.specs.Inside.Leaving.{LeavesRoom};
 
 use crate::displaced::{add_both, arrange, displaced, holder_in, is_inside, stands};
 use crate::edit::Edit;
@@ -74,7 +75,7 @@ fn relink(graph: &mut Graph, alloc: Global, link: Link) -> Result<Edit, NoMemory
     requires valid { IsValid graph.old.meta graph.old.model }
     requires fits { FitsReference graph.old.meta graph.old.model.live link }
     requires fresh { NoneStands graph.old.meta graph.old.model link }
-    ensures meta { graph.new.meta ≡ graph.old.meta }
+    ensures leaves { LeavesRoom graph.old graph.new }
     ensures made { OnOk result (graph.new.model ≡ relinked graph.old.meta graph.old.model link) }
     ensures edit { IfOk result (λ edit. edit ≡ record {
       meta = graph.old.meta;
@@ -82,7 +83,6 @@ fn relink(graph: &mut Graph, alloc: Global, link: Link) -> Result<Edit, NoMemory
       waiting = [];
     }) }
     ensures unchanged { OnErr result (graph.new.model ≡ graph.old.model) }
-    ensures room { KeepsRoom graph.old.places graph.new.places }
 {
     let dropped = displaced(graph, alloc, &link)?;
     let added = both(alloc, graph.meta(), link)?;
@@ -131,13 +131,12 @@ pub(crate) fn make_link(graph: &mut Graph, alloc: Global, asked: Link) -> Result
     requires sound { IsSound graph.old.meta }
     requires valid { IsValid graph.old.meta graph.old.model }
     requires fits { FitsReference graph.old.meta graph.old.model.live asked }
-    ensures meta { graph.new.meta ≡ graph.old.meta }
+    ensures leaves { LeavesRoom graph.old graph.new }
     ensures made { OnOk result (link_effect graph.old.meta graph.old.model asked ≡ Ok graph.new.model) }
     ensures refused { (why : Refusal) → result ≡ Err (fault.Refused why)
         → link_effect graph.old.meta graph.old.model asked ≡ Err why }
     ensures edit { IfOk result (λ edit. edit ≡ record { meta = graph.old.meta; edit = edit_of graph.old.model graph.new.model; waiting = [] }) }
     ensures unchanged { OnErr result (graph.new.model ≡ graph.old.model) }
-    ensures room { KeepsRoom graph.old.places graph.new.places }
 {
     if stands(graph, &asked) {
         return Ok(no_edit(graph, alloc));
@@ -168,11 +167,10 @@ fn drop_with_back(graph: &mut Graph, link: Link)
 pub(crate) fn unmake_link(graph: &mut Graph, alloc: Global, asked: Link) -> Result<Edit, NoMemory>
     requires sound { IsSound graph.old.meta }
     requires valid { IsValid graph.old.meta graph.old.model }
-    ensures meta { graph.new.meta ≡ graph.old.meta }
+    ensures leaves { LeavesRoom graph.old graph.new }
     ensures made { OnOk result (graph.new.model ≡ unlinked graph.old.meta graph.old.model asked) }
     ensures edit { IfOk result (λ edit. edit ≡ record { meta = graph.old.meta; edit = edit_of graph.old.model graph.new.model; waiting = [] }) }
     ensures unchanged { OnErr result (graph.new.model ≡ graph.old.model) }
-    ensures room { KeepsRoom graph.old.places graph.new.places }
 {
     if !stands(graph, &asked) {
         return Ok(no_edit(graph, alloc));

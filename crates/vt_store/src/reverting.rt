@@ -1,5 +1,5 @@
 // Taking back what a change did.
-ghost use Rattle.std.specs.Prelude.{◌≡◌, ◌<◌, ◌≤◌, ◌++◌, map, All, Contains};
+ghost use Rattle.std.specs.Prelude.{◌≡◌, ◌<◌, ◌++◌, map, All, Contains};
 ghost use Rattle.vt_graph.specs.Having.{HasAttribute};
 ghost use Rattle.vt_graph.specs.Room.{KeepsRoom, HasRoom, HasRoomFor};
 ghost use Rattle.vt_slots.specs.declared.slot.Side.TheVariants.{Outgoing, Incoming};

@@ -1,10 +1,10 @@
 // A store as queries see it, and as who knows the names that printed values need.
-ghost use Rattle.std.specs.Prelude.{◌≡◌};
 
 use crate::Store;
 use std::alloc::Global;
 use std::sync::ledger::Ledger;
 use vt_base::{AttrId, Base, ClassId, Names, NoMemory, ObjId, RefId, Rows, Steps, Text};
+use vt_graph::Listed;
 
 impl Base for Store {
     ghost use Rattle.vt_model.specs.Base.{base_of};
@@ -17,7 +17,7 @@ impl Base for Store {
         c: ClassId,
         steps: &mut Steps<L>,
     ) -> Result<Rows, NoMemory> {
-        self.graph.class_rows(alloc, c, steps)
+        self.graph.rows(alloc, Listed::Class(c), steps)
     }
 
     fn attr_rows<L: Ledger>(
@@ -26,7 +26,7 @@ impl Base for Store {
         a: AttrId,
         steps: &mut Steps<L>,
     ) -> Result<Rows, NoMemory> {
-        self.graph.attr_rows(alloc, a, steps)
+        self.graph.rows(alloc, Listed::Attribute(a), steps)
     }
 
     fn ref_rows<L: Ledger>(
@@ -35,7 +35,7 @@ impl Base for Store {
         r: RefId,
         steps: &mut Steps<L>,
     ) -> Result<Rows, NoMemory> {
-        self.graph.ref_rows(alloc, r, steps)
+        self.graph.rows(alloc, Listed::Reference(r), steps)
     }
 }
 

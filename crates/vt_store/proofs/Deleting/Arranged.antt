@@ -1,25 +1,20 @@
 -- The orders of a model's lists, and lists that are put in order.
-use Rattle.std.proofs.Common.{◌≡◌, ℕ, List, [], refl, ap, sym, subst, arith, Bool, true}
+use Rattle.std.proofs.Common.{◌≡◌, ℕ, List, [], refl, sym, subst, arith, Bool, true}
 use Rattle.std.specs.Prelude.{◌&&◌, ◌==◌}
 use Rattle.std.specs.List.{dedup}
 use Rattle.std.specs.List.Retain.{IsFiltered, DiffersFromLast}
 use Rattle.std.specs.List.Sorted.{IsSorted, IsPermutation}
 use Rattle.std.specs.Cmp.{IsTotalOrder, Equal-is}
-use Rattle.std.specs.Ordering.{nat_cmp, ordering_then, eq_by_cmp}
+use Rattle.std.specs.Ordering.{nat_cmp, eq_by_cmp}
 use Rattle.std.specs.declared.cmp.Ordering.{Ordering}
 use Rattle.std.specs.declared.cmp.Ordering.TheVariants.{Equal}
-use Rattle.std.proofs.lemmas.Bool.{and_parts, and_from, eqb-true, eq-eqb}
 use Rattle.std.proofs.lemmas.Bool.Decides.{nat_tests}
-use Rattle.std.proofs.lemmas.Cmp.{nat_cmp_total, on_total, then_total, eq_by_cmp_equiv}
+use Rattle.std.proofs.lemmas.Cmp.{eq_by_cmp_equiv}
 use Rattle.std.proofs.lemmas.List.Filters.{dedup_is}
 use Rattle.std.proofs.lemmas.List.Kept.{IsStrictlySortedBy-dedup, Contains-dedup, Contains-from_dedup}
 use Rattle.std.proofs.lemmas.List.Sorted.{Contains-permutation, IsPermutation-sym}
-use Rattle.std.proofs.lemmas.Map.Lookups.{exact_unsigned}
 use Rattle.vt_base.specs.declared.numbers.ObjId.{ObjId}
-use Rattle.vt_model.specs.Assigning.{value_order}
-use Rattle.vt_model.specs.Linking.{link_order, is_link}
-use Rattle.vt_model.specs.Deleting.{gone_order}
-use Rattle.vt_model.specs.Valid.{object_order}
+use Rattle.vt_model.specs.Linking.{link_order}
 use Rattle.vt_model.specs.declared.model.Link.{Link}
 use Rattle.vt_slots.specs.Ends.{number_order}
 use Rattle.vt_store.specs.Inside.Levels.{IsArranged}

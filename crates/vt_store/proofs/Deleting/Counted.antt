@@ -25,7 +25,6 @@ use Rattle.vt_store.specs.Inside.Levels.{holds_by, children, level_below, levels
 use Rattle.vt_store.proofs.Deleting.ListLemmas.{NoRepeats, AreDifferent-NoRepeats, NoRepeats-rising, NoRepeats-filter, NoRepeats-append, NoRepeats-map, NoRepeats-flat_map, apart-append}
 use Rattle.vt_store.proofs.Deleting.Levels.{Holds-children, Holds-level_below, levels_from-none, levels_from-append, IsAtOrIn-levels_from, IsAtOrIn-levels_from_one, Contains-levels_from-more, Contains-levels_from-inside}
 use Rattle.vt_graph.proofs.Linked.Stored.{link_order_total}
-use Rattle.vt_store.proofs.UndoneLemmas.{object_order_total}
 use Rattle.vt_facts.proofs.RisingLemmas.{first_below}
 
 module _ (meta : Metamodel) (g : Model) (side : LinkSide meta g) where

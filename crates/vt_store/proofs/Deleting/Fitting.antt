@@ -20,7 +20,7 @@ use Rattle.vt_model.specs.declared.model.Object.{Object}
 use Rattle.vt_facts.proofs.MemberLemmas.{Contains-map, Contains-from_filter, Contains-find, find-some}
 use Rattle.vt_graph.specs.Held.{Held}
 use Rattle.vt_graph.specs.Asked.{live_at, gone_at}
-use Rattle.vt_graph.specs.Room.{KeepsRoom, HasRoom}
+use Rattle.vt_graph.specs.Room.{HasRoom}
 use Rattle.vt_asked.specs.declared.naming.Named.{Named}
 use Rattle.vt_store.specs.Edits.{edit_of}
 use Rattle.vt_store.specs.Undoing.{HeldEdit}
@@ -30,7 +30,7 @@ use Rattle.vt_store.specs.declared.fault.StoreFault.TheVariants.{NoMemory}
 use Rattle.vt_store.specs.Inside.Kept.{gone_of}
 use Rattle.vt_store.specs.Inside.Levels.{objects_inside}
 use Rattle.vt_asked.specs.Named.{IsNamed}
-use Rattle.vt_store.specs.Inside.Waiting.{HasClasses}
+use Rattle.vt_store.specs.Inside.Leaving.{Deletes}
 use Rattle.vt_store.proofs.MakesLemmas.{room_kept, makes_nothing, makes_made}
 use Rattle.vt_store.proofs.Deleting.Buried.{object_at-live}
 use Rattle.vt_store.proofs.Deleting.Edit.{Contains-with_gone, edit_of_deleted}
@@ -43,27 +43,25 @@ gone-inside meta g o valid x there =
     (gone_of x) (Contains-map gone_of (objects_inside meta g o) x there) in
     ap is_some (find-some (λ y. y.number.0 == x.number.0) (deleted meta g o).gone (gone_of x) stands (eq-eqb x.number.0 x.number.0 refl)).1
 
-module _ (old new : Held) (e : HeldEdit) (o : ObjId) (valid : IsValid old.meta old.model) (made : new.model ≡ deleted old.meta old.model o)
-    (is : e.edit ≡ edit_of old.model (deleted old.meta old.model o)) where
+module _ (old new : Held) (e : HeldEdit) (o : ObjId) (valid : IsValid old.meta old.model) (went : Deletes o old new e) where
   -- the edit is what changed
   deleted_edit : e.edit ≡ edit_of old.model new.model
-  deleted_edit = is ∙ ap (edit_of old.model) (sym made)
+  deleted_edit = went.edit_is ∙ ap (edit_of old.model) (sym went.made)
 
   -- so the deletion is made
   pub makes_deleted : (name : List ℕ) → IsSound old.meta → HasRoom old.places old.model → effect old.meta old.model (Delete name) ≡ Ok (deleted old.meta old.model o)
-      → new.meta ≡ old.meta → e.meta ≡ old.meta → HasClasses new.places e.edit.live.removed → HasClasses e.waiting e.edit.live.removed
-      → KeepsRoom old.places (e.waiting ++ new.places) → Makes (Delete name) old new (Ok e)
-  makes_deleted name sound has done meta of kept waits room = makes_made (Delete name) old new e tt sound valid has meta (done ∙ ap Ok (sym made)) (record {
-    of = of ∙ sym meta;
+      → new.meta ≡ old.meta → Makes (Delete name) old new (Ok e)
+  makes_deleted name sound has done meta = makes_made (Delete name) old new e tt sound valid has meta (done ∙ ap Ok (sym went.made)) (record {
+    of = went.of ∙ sym meta;
     is = deleted_edit;
-    gone = λ x went. subst (λ g. IsSome (gone_at g x.number)) (sym made) (gone-inside old.meta old.model o valid x (subst (λ xs. Contains xs x) removed went));
-    kept = kept;
-    waits = waits;
-    room = room_kept old.model old.places (e.waiting ++ new.places) room;
+    gone = λ x out. subst (λ g. IsSome (gone_at g x.number)) (sym went.made) (gone-inside old.meta old.model o valid x (subst (λ xs. Contains xs x) removed out));
+    kept = went.kept;
+    waits = went.waits;
+    room = room_kept old.model old.places (e.waiting ++ new.places) went.room;
   })
     where
       removed : e.edit.live.removed ≡ objects_inside old.meta old.model o
-      removed = ap (λ d. d.live.removed) (is ∙ edit_of_deleted old.meta old.model o valid)
+      removed = ap (λ d. d.live.removed) (went.edit_is ∙ edit_of_deleted old.meta old.model o valid)
 
 -- a live object that is named is found by its number
 pub named_live : (meta : Metamodel) (g : Model) → IsValid meta g → (name : List ℕ) (o : Named) → IsNamed g name o → IsSome (live_at g o.number)

@@ -1,6 +1,6 @@
 -- Lists: what stands in one that is changed item by item, joined or filtered, and lists without repeats.
 use Rattle.std.proofs.Common.{◌≡◌, ℕ, List, [], ◌∷◌, ◌++◌, map, refl, ap, sym, subst, ◌∙◌, inl, inr, Bool, true, false, cond}
-use Rattle.std.specs.Prelude.{◌&&◌, All, Contains, filter, find, Option, None, Some}
+use Rattle.std.specs.Prelude.{Contains, filter, find, Option, None, Some}
 use Rattle.std.specs.List.{flat_map}
 use Rattle.std.specs.List.Sorted.{IsStrictlySortedBy}
 use Rattle.std.proofs.lemmas.Bool.{false≢true}
@@ -8,8 +8,7 @@ use Rattle.std.specs.Option.{option_to_list}
 use Rattle.std.specs.Cmp.{IsTotalOrder}
 use Rattle.std.specs.declared.cmp.Ordering.{Ordering}
 use Rattle.std.specs.declared.cmp.Ordering.TheVariants.{Less}
-use Rattle.std.proofs.lemmas.List.Elements.{Contains-append_left, Contains-append_right, Contains-append_cases, All-contains, All-from_recursion, recursion_from_All}
-use Rattle.vt_facts.proofs.OrderedLemmas.{IsStrictlySortedBy-append}
+use Rattle.std.proofs.lemmas.List.Elements.{Contains-append_right, Contains-append_cases, All-contains, All-from_recursion, recursion_from_All}
 use Rattle.std.proofs.lemmas.Map.Keys.{sorted_tail}
 use Rattle.vt_facts.proofs.MemberLemmas.{Contains-nil, Contains-head, Contains-behind, Contains-cons_cases, Contains-from_filter, All-from_contains, AreDifferent, Contains-from_map}
 use Rattle.vt_facts.proofs.RisingLemmas.{first_below, not_below_itself}

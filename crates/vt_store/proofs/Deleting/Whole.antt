@@ -1,12 +1,10 @@
 -- A deletion by its steps: what its edit says, and what is kept.
-use Rattle.std.proofs.Common.{◌≡◌, List, [], ◌++◌, map, reverse, refl, sym, ap, subst, ◌∙◌}
+use Rattle.std.proofs.Common.{◌≡◌, List, [], ◌++◌, map, reverse, sym, ap, subst, ◌∙◌}
 use Rattle.std.specs.Prelude.{All, Contains, filter, fold, Bool, option_map}
 use Rattle.std.specs.List.Sorted.{IsStrictlySortedBy}
 use Rattle.std.proofs.lemmas.List.Elements.{All-contains}
 use Rattle.std.proofs.lemmas.List.Kept.{IsStrictlySortedBy-filter}
 use Rattle.vt_base.specs.declared.numbers.ObjId.{ObjId}
-use Rattle.vt_model.specs.Metamodel.{Metamodel}
-use Rattle.vt_model.specs.Model.{Model}
 use Rattle.vt_model.specs.Containing.{is_inside}
 use Rattle.vt_model.specs.Deleting.{deleted}
 use Rattle.vt_model.specs.Fits.{FitsAttribute}

@@ -1,7 +1,6 @@
 -- A link that comes before what it displaces goes: the same links are left.
-use Rattle.std.proofs.Common.{◌≡◌, ℕ, List, [], ◌∷◌, fold, reverse, arith, refl, sym, ap, subst, ◌∙◌, ◌⊎◌, inl, inr, Bool, true, false, not}
-use Rattle.std.specs.Prelude.{Contains, Option, Some, None, filter}
-use Rattle.std.specs.BTreeSet.{insert_key}
+use Rattle.std.proofs.Common.{◌≡◌, List, [], ◌∷◌, fold, reverse, arith, refl, ap, ◌∙◌, ◌⊎◌, inl, inr, Bool, true, false, not}
+use Rattle.std.specs.Prelude.{Contains, filter}
 use Rattle.std.specs.List.{list_any}
 use Rattle.std.specs.List.Sorted.{IsStrictlySortedBy}
 use Rattle.std.proofs.lemmas.List.{reverse-append}
@@ -10,7 +9,7 @@ use Rattle.std.proofs.lemmas.List.Kept.{IsStrictlySortedBy-filter}
 use Rattle.std.proofs.lemmas.Bool.{both_ways, not-true, not_from_false}
 use Rattle.vt_model.specs.Metamodel.{Metamodel}
 use Rattle.vt_model.specs.Model.{Model}
-use Rattle.vt_model.specs.Linking.{is_dropped, is_link, link_back, link_order, relinked, with_link}
+use Rattle.vt_model.specs.Linking.{is_dropped, is_link, link_order, relinked, with_link}
 use Rattle.vt_model.specs.declared.model.Link.{Link}
 use Rattle.vt_facts.proofs.MemberLemmas.{Contains-filter, Contains-from_filter}
 use Rattle.vt_model.proofs.Valid.Dropped.{Comes}
@@ -19,7 +18,7 @@ use Rattle.vt_store.specs.Edits.{same_link, without}
 use Rattle.vt_graph.specs.Held.{Place}
 use Rattle.vt_graph.specs.Room.{KeepsRoom}
 use Rattle.vt_store.specs.Inside.Displaced.{NoneStands, without_back, without_link, with_one}
-use Rattle.vt_store.proofs.Linking.Links.{listed-Contains, Contains-listed, not_there}
+use Rattle.vt_store.proofs.Linking.Links.{listed-Contains, not_there}
 use Rattle.vt_store.proofs.Linking.Steps.{without_back_is, but_for-insert_key}
 use Rattle.vt_store.proofs.Linking.Coming.{comes_anew}
 use Rattle.vt_facts.proofs.RisingLemmas.{same_items}

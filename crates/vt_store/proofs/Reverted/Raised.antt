@@ -1,10 +1,10 @@
 -- Deleted objects that come back one by one, the last first.
 use Rattle.std.proofs.Common.{cond, ◌≡◌, ℕ, List, [], ◌∷◌, ◌++◌, map, refl, sym, ap, subst, ◌∙◌, Bool, true, false, not, arith}
-use Rattle.std.specs.Prelude.{◌≤◌, ◌==◌, All, Contains, filter, find, Option, None, Some, option_map, unwrap_or}
+use Rattle.std.specs.Prelude.{◌≤◌, ◌==◌, Contains, Option, None, Some, option_map, unwrap_or}
 use Rattle.std.specs.Option.{option_or}
 use Rattle.std.specs.List.Sorted.{IsStrictlySortedBy}
 use Rattle.std.specs.Ordering.{nat_cmp}
-use Rattle.std.specs.declared.cmp.Ordering.TheVariants.{Less, Equal}
+use Rattle.std.specs.declared.cmp.Ordering.TheVariants.{Less}
 use Rattle.std.proofs.lemmas.Bool.{ne_eqb, eqb-true, not_from_false}
 use Rattle.std.proofs.lemmas.List.{map-append}
 use Rattle.std.proofs.lemmas.List.Elements.{All-contains, Contains-append_left, Contains-push}
@@ -17,7 +17,6 @@ use Rattle.vt_base.specs.declared.numbers.RefId.{RefId}
 use Rattle.vt_model.specs.Model.{Model}
 use Rattle.vt_model.specs.Deleting.{gone_order}
 use Rattle.vt_model.specs.Valid.{object_order}
-use Rattle.vt_model.specs.declared.model.Object.{Object}
 use Rattle.vt_model.specs.declared.model.GoneObject.{GoneObject}
 use Rattle.vt_facts.proofs.MemberLemmas.{All-from_contains, Contains-map, Contains-filter}
 use Rattle.vt_slots.specs.Ends.{capacity_of}
@@ -26,7 +25,7 @@ use Rattle.vt_slots.specs.declared.slot.Side.TheVariants.{Outgoing, Incoming}
 use Rattle.vt_graph.specs.Held.{Held, Place, Buried}
 use Rattle.vt_graph.specs.Room.{place_at, class_kept, ends_of, capacity_at, capacity_in, KeepsRoom}
 use Rattle.vt_graph.specs.Passing.{with_raised}
-use Rattle.vt_store.specs.Inside.Kept.{gone_of, objects_of, waiting_place, AreOf, raised_back, CanRaise}
+use Rattle.vt_store.specs.Inside.Kept.{gone_of, objects_of, waiting_place, raised_back, CanRaise}
 use Rattle.vt_store.proofs.RisingLemmas.{rises_front}
 use Rattle.vt_store.proofs.UndoneLemmas.{object_order_total}
 use Rattle.vt_facts.proofs.RisingLemmas.{not_below_itself}

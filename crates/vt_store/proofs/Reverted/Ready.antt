@@ -1,7 +1,7 @@
 -- What each step needs by which an edit is taken back, and the room that they keep.
-use Rattle.std.proofs.Common.{◌≡◌, ℕ, List, [], ◌∷◌, ◌++◌, map, refl, sym, ap, subst, ◌∙◌, ◌⊎◌, inl, inr, not, arith, Bool}
+use Rattle.std.proofs.Common.{◌≡◌, ℕ, List, [], ◌∷◌, map, refl, sym, ap, subst, ◌∙◌, not, arith}
 use Rattle.std.specs.BTreeSet.{insert_key}
-use Rattle.std.specs.Prelude.{fold, ◌<◌, ◌≤◌, ◌≢◌, ◌==◌, length, All, Contains, filter, find, is_some, IsSome, IfSome, option_map, Option, None, Some}
+use Rattle.std.specs.Prelude.{fold, ◌<◌, ◌≤◌, ◌≢◌, ◌==◌, All, Contains, find, is_some, IsSome, IfSome, option_map, Option, None, Some}
 use Rattle.std.specs.List.{list_any}
 use Rattle.std.specs.List.Sorted.{IsStrictlySortedBy}
 use Rattle.std.proofs.lemmas.Bool.{eq-eqb}
@@ -22,23 +22,22 @@ use Rattle.vt_model.specs.declared.model.AttributeValue.{AttributeValue}
 use Rattle.vt_model.specs.declared.model.Link.{Link}
 use Rattle.vt_facts.proofs.MemberLemmas.{All-from_contains, Contains-head, Contains-map, Contains-from_filter, find-some}
 use Rattle.vt_graph.specs.Held.{Held, Place, Buried}
-use Rattle.vt_graph.specs.Asked.{live_at}
 use Rattle.vt_graph.specs.Having.{HasAttribute}
-use Rattle.vt_graph.specs.Room.{class_kept, capacity_at, HasRoom, KeepsRoom}
-use Rattle.vt_store.specs.Edits.{ListChange, Edit, same_object, same_gone, same_value, same_link, without, edit_of, undone}
+use Rattle.vt_graph.specs.Room.{class_kept, KeepsRoom}
+use Rattle.vt_store.specs.Edits.{ListChange, same_object, same_gone, same_value, same_link, without, undone}
 use Rattle.vt_store.specs.Undoing.{HeldEdit, KeepsRoomOf, Fits}
-use Rattle.vt_store.specs.Inside.Assigned.{without_values, with_values}
+use Rattle.vt_store.specs.Inside.Assigned.{without_values}
 use Rattle.vt_store.specs.Inside.Displaced.{EndsLive, IsReturning, without_back, with_each}
-use Rattle.vt_store.specs.Inside.Kept.{gone_of, objects_of, waiting_place, kept_edit, IsFresh, AreOf, settled, CanRaise, CanReturn, CanRetract, CanSettle}
+use Rattle.vt_store.specs.Inside.Kept.{gone_of, objects_of, waiting_place, kept_edit, IsFresh, AreOf, settled, CanReturn, CanRetract, CanSettle}
 use Rattle.vt_store.proofs.EditLemmas.{Contains-without, Contains-from_without}
-use Rattle.vt_store.proofs.NetLemmas.{Contains-one, tells_apart, stood_or_came, kept_stood}
-use Rattle.vt_store.proofs.SameLemmas.{Decides-same_object, Decides-same_gone, Decides-same_value, Decides-same_link}
+use Rattle.vt_store.proofs.NetLemmas.{Contains-one, tells_apart, kept_stood}
+use Rattle.vt_store.proofs.SameLemmas.{Decides-same_object, Decides-same_value, Decides-same_link}
 use Rattle.vt_store.proofs.Linking.Lists.{without-none}
 use Rattle.vt_asked.proofs.LiveLemmas.{live_at_there}
 use Rattle.vt_store.proofs.Linking.Live.{live_with_each, ends_live_same, ends_live_fits}
 use Rattle.vt_store.proofs.Reverted.Objects.{one_object}
 use Rattle.vt_store.proofs.Reverted.Raised.{places_with, room_with}
-use Rattle.vt_store.proofs.Reverted.Whole.{IsKept, before, live_changed, gone_changed, values_changed, links_changed, deleted_rise, are_gone, left_values, went, settled_then, values_back, reverted_is}
+use Rattle.vt_store.proofs.Reverted.Whole.{IsKept, before, live_changed, values_changed, links_changed, deleted_rise, are_gone, left_values, went, settled_then}
 
 -- ---- attributes
 

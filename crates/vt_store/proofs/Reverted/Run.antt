@@ -1,29 +1,25 @@
 -- The steps by which an edit is taken back, one after the other.
-use Rattle.std.proofs.Common.{◌≡◌, ℕ, List, [], ◌∷◌, ◌++◌, map, reverse, refl, sym, ap, subst, ◌∙◌, arith}
-use Rattle.std.specs.Prelude.{◌≤◌, ◌==◌, length, fold, find, All, Contains, IsSome, IfSome, Option, None, Some}
-use Rattle.vt_base.specs.declared.numbers.ObjId.{ObjId}
-use Rattle.vt_base.specs.declared.numbers.RefId.{RefId}
+use Rattle.std.proofs.Common.{◌≡◌, ℕ, List, reverse, sym, ap, subst, ◌∙◌, arith}
+use Rattle.std.specs.Prelude.{◌≤◌, fold, All, IfSome, Option}
 use Rattle.vt_model.specs.Metamodel.{Metamodel}
 use Rattle.vt_model.specs.Model.{Model}
 use Rattle.vt_model.specs.Valid.{IsValid}
 use Rattle.vt_model.specs.declared.model.Object.{Object}
 use Rattle.vt_model.specs.declared.model.AttributeValue.{AttributeValue}
 use Rattle.vt_model.specs.declared.model.Link.{Link}
-use Rattle.vt_slots.specs.declared.slot.Side.{Side}
-use Rattle.vt_graph.specs.Held.{Held, Place, Buried}
-use Rattle.vt_graph.specs.Asked.{live_at, others_at}
+use Rattle.vt_graph.specs.Held.{Held, Buried}
 use Rattle.vt_graph.specs.Having.{HasAttribute}
-use Rattle.vt_graph.specs.Room.{capacity_at, HasRoom, KeepsRoom}
+use Rattle.vt_graph.specs.Room.{HasRoom, KeepsRoom}
 use Rattle.vt_store.specs.Edits.{ListChange, same_link, without, undone}
 use Rattle.vt_store.specs.Undoing.{KeepsRoomOf, Fits}
 use Rattle.vt_store.specs.Inside.Assigned.{without_values, with_values}
 use Rattle.vt_store.specs.Inside.Displaced.{EndsLive, IsReturning, without_link, without_back, with_each}
-use Rattle.vt_store.specs.Inside.Kept.{objects_of, kept_edit, IsFresh, AreOf, settled, CanSettle}
+use Rattle.vt_store.specs.Inside.Kept.{kept_edit, IsFresh, AreOf, settled, CanSettle}
 use Rattle.vt_store.proofs.Linking.Anew.{back_is_reverse}
 use Rattle.vt_store.proofs.Linking.Steps.{without_back_is}
 use Rattle.vt_store.proofs.Reverted.Raised.{places_with}
-use Rattle.vt_store.proofs.Reverted.Whole.{IsKept, left_values, went, settled_then, values_back, reverted_is}
-use Rattle.vt_store.proofs.Reverted.Ready.{held_edit, is_kept, old, had_added, had_removed, links_return, links_live, can_settle, room_waiting, room_same, room_then}
+use Rattle.vt_store.proofs.Reverted.Whole.{IsKept, settled_then, values_back, reverted_is}
+use Rattle.vt_store.proofs.Reverted.Ready.{held_edit, is_kept, had_added, had_removed, links_return, links_live, can_settle, room_waiting, room_same, room_then}
 
 module _ (s : Held) (meta : Metamodel) (next : ℕ) (created : Option Object) (deleted : List Buried) (values : ListChange AttributeValue) (links : ListChange Link)
     (fits : Fits (held_edit meta next created deleted values links) s) (valid : IsValid s.meta s.model) (fresh : IfSome created (IsFresh next deleted)) (of : AreOf meta deleted) where

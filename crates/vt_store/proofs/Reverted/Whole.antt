@@ -1,6 +1,6 @@
 -- All steps by which an edit is taken back.
-use Rattle.std.proofs.Common.{◌≡◌, ℕ, List, [], ◌∷◌, map, refl, sym, ap, subst, ◌∙◌, ◌⊎◌, inl, inr, not, arith}
-use Rattle.std.specs.Prelude.{◌==◌, Contains, filter, fold, IfSome, option_to_list, Option, None, Some}
+use Rattle.std.proofs.Common.{◌≡◌, ℕ, List, [], ◌∷◌, map, sym, ap, subst, ◌∙◌, ◌⊎◌, inl, inr, not, arith}
+use Rattle.std.specs.Prelude.{◌==◌, Contains, filter, fold, IfSome, Option, None, Some}
 use Rattle.std.specs.BTreeSet.{insert_key}
 use Rattle.std.specs.List.{list_any}
 use Rattle.std.specs.List.Sorted.{IsStrictlySortedBy}
@@ -13,7 +13,6 @@ use Rattle.vt_model.specs.Assigning.{value_order}
 use Rattle.vt_model.specs.Fits.{FitsAttribute}
 use Rattle.vt_model.specs.Valid.{IsValid, object_order}
 use Rattle.vt_model.specs.declared.model.Object.{Object}
-use Rattle.vt_model.specs.declared.model.GoneObject.{GoneObject}
 use Rattle.vt_model.specs.declared.model.AttributeValue.{AttributeValue}
 use Rattle.vt_model.specs.declared.model.Link.{Link}
 use Rattle.vt_facts.proofs.MemberLemmas.{Contains-head, Contains-map}
@@ -24,7 +23,7 @@ use Rattle.vt_store.specs.Inside.Displaced.{without_back, with_each}
 use Rattle.vt_store.specs.Inside.Assigned.{without_values, with_values}
 use Rattle.vt_store.proofs.EditLemmas.{Contains-from_without}
 use Rattle.vt_store.proofs.NetLemmas.{tells_apart, stood_or_came, stands_or_went, kept_stood}
-use Rattle.vt_store.proofs.SameLemmas.{Decides-same_object, Decides-same_gone, Decides-same_value, Decides-same_link}
+use Rattle.vt_store.proofs.SameLemmas.{Decides-same_object, Decides-same_gone, Decides-same_value}
 use Rattle.vt_store.proofs.UndoneLemmas.{object_order_total}
 use Rattle.vt_store.proofs.Linking.Lists.{without-none}
 use Rattle.vt_store.proofs.Linking.Steps.{without_back_is, with_each_is}

@@ -1,6 +1,5 @@
 -- What goes where an object is deleted: what is in it, level by level, and the links that touch it; and the steps by which it goes.
 use Rattle.std.specs.List.Sorted.{IsStrictlySortedBy}
-use Rattle.std.specs.Ordering.{nat_cmp}
 use Rattle.std.specs.declared.cmp.Ordering.{Ordering}
 use Rattle.std.specs.Prelude.{◌≡◌, ◌⊎◌, ℕ, zero, suc, ◌&&◌, ◌||◌, ◌==◌, List, [], ◌∷◌, ◌++◌, map, filter, find, fold, Contains, Bool, not, Option, None, Some, if◌then◌else◌, option_map, option_and_then}
 use Rattle.std.specs.List.{flat_map}

@@ -8,7 +8,7 @@ use Rattle.vt_store.proofs.creation.create.Goals as goal
 pub returns-in-Ok : goal.returns-in-Ok
 returns-in-Ok c =
     let asked = c.in_ok-asked.asked in
-    makes_created c.args.graph.now c.add_object.new.graph c.in-Ok.edit c.args.name.now asked.class asked.number c.requires.valid c.in_ok-asked.ensures.above c.in-Ok.ensures.made c.in-Ok.ensures.edit
+    makes_created c.args.graph.now c.add_object.new.graph c.in-Ok.edit c.args.name.now asked.class asked.number c.requires.valid c.in_ok-asked.ensures.fresh.above c.in-Ok.ensures.made c.in-Ok.ensures.edit
     c.args.class.now c.args.number c.requires.sound c.meta.ensures.room c.in_ok-asked.ensures.made c.add_object.ensures.meta c.add_object.ensures.room
 
 pub returns-in-Err : goal.returns-in-Err

@@ -16,12 +16,12 @@ returns-clause-added c =
       added = rw c.unwrap.ensures at pushed;
       step = record {
         meta = c.bury.ensures.meta;
-        model = c.bury.ensures.buried ∙ buried_is c.args.graph.now.model c.args.x c.bury.result.object c.bury.ensures.object;
-        lived = c.bury.ensures.object;
-        of = c.bury.ensures.of_meta;
-        own_room = c.bury.ensures.own_room;
+        model = c.bury.ensures.buried ∙ buried_is c.args.graph.now.model c.args.x c.bury.result.object c.bury.ensures.was.object;
+        lived = c.bury.ensures.was.object;
+        of = c.bury.ensures.was.meta;
+        own_room = c.bury.ensures.was.room;
         room = c.bury.ensures.room;
-        was = c.bury.ensures.was;
+        was = c.bury.ensures.was.class;
         class = c.bury.ensures.class;
       };
     }

@@ -9,6 +9,5 @@ remove-requires-clause-live c = named_live c.args.graph.now.meta c.args.graph.no
 pub returns : goal.returns
 returns c =
     let object = c.in_ok-object.object in
-    makes_deleted c.args.graph.now c.remove.new.graph c.in_ok-edit.edit object.number c.requires.valid c.in_ok-edit.ensures.made c.in_ok-edit.ensures.edit c.args.name.now
-    c.requires.sound c.meta.ensures.room (delete_made c.args.graph.now.meta c.args.graph.now.model c.args.name.now object c.in_ok-object.ensures.live) c.remove.ensures.meta c.in_ok-edit.ensures.of c.in_ok-edit.ensures.kept c.in_ok-edit.ensures.waits
-    c.in_ok-edit.ensures.room
+    makes_deleted c.args.graph.now c.remove.new.graph c.in_ok-edit.edit object.number c.requires.valid c.in_ok-edit.ensures.deleted c.args.name.now
+    c.requires.sound c.meta.ensures.room (delete_made c.args.graph.now.meta c.args.graph.now.model c.args.name.now object c.in_ok-object.ensures.live) c.remove.ensures.meta

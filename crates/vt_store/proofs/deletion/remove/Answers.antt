@@ -52,11 +52,13 @@ returns c =
     }) in
     record {
       meta = done.meta;
-      made = done.model;
-      edit = ap (λ (e : HeldEdit). e.edit) made ∙ done.edit;
-      of = ap (λ (e : HeldEdit). e.meta) made;
-      kept = subst (λ (e : HeldEdit). HasClasses new.places e.edit.live.removed) (sym made) done.kept;
-      waits = subst (λ (e : HeldEdit). HasClasses e.waiting e.edit.live.removed) (sym made) done.waits;
-      room = subst (λ (e : HeldEdit). KeepsRoom old.places (e.waiting ++ new.places)) (sym made) done.room;
+      deleted = record {
+        made = done.model;
+        edit_is = ap (λ (e : HeldEdit). e.edit) made ∙ done.edit;
+        of = ap (λ (e : HeldEdit). e.meta) made;
+        kept = subst (λ (e : HeldEdit). HasClasses new.places e.edit.live.removed) (sym made) done.kept;
+        waits = subst (λ (e : HeldEdit). HasClasses e.waiting e.edit.live.removed) (sym made) done.waits;
+        room = subst (λ (e : HeldEdit). KeepsRoom old.places (e.waiting ++ new.places)) (sym made) done.room;
+      };
       unchanged = tt;
     }

@@ -27,5 +27,5 @@ returns-clause-edit c =
     let removed : c.from_vec-2.result ≡ filter (is_dropped g.meta link) g.model.links = c.from_vec-2.ensures ∙ c.in_ok-dropped.ensures in
     c.of_links.ensures ∙ (λ i. record { meta = of i; edit = links_edit (next i) (added i) (removed i); waiting = [] })
 
-pub returns-clause-room : goal.returns-clause-room
-returns-clause-room c = KeepsRoom-then _ _ _ c.in_ok-add_with_back.ensures.room c.drop_back.ensures.room
+pub returns-clause-leaves : goal.returns-clause-leaves
+returns-clause-leaves c = record { meta = c.drop_back.ensures.meta ∙ c.in_ok-add_with_back.ensures.meta; room = KeepsRoom-then _ _ _ c.in_ok-add_with_back.ensures.room c.drop_back.ensures.room }
