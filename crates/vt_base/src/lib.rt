@@ -44,8 +44,8 @@ pub use value::{Kind, Value};
 // Tuples of values, sets of them, and what a column of one comes to.
 pub use aggregate::AggKind;
 pub use laws::{
-    a_list_has_one_set, a_net_delta_leads_on, a_tuple_stands_where_it_is, net_deltas_lead_on,
-    tuples_are_ordered, values_are_ordered,
+    a_list_has_one_set, a_net_delta_leads_on, a_net_delta_stays_net, a_tuple_stands_where_it_is,
+    net_deltas_lead_on, tuples_are_ordered, values_are_ordered,
 };
 pub use rows::Rows;
 pub use tuple::Tuple;
