@@ -1,8 +1,10 @@
 // How rows changed, and how all rows of a model did.
-ghost use Rattle.std.specs.Prelude.{◌≡◌, ◌<◌, ◌↔◌, length, Some, slice_get, IfOk, OnOk, OnErr, IsTrue};
-ghost use Rattle.vt_base.specs.Deltas.{after_coming, after_going, applied, change_of, net, no_change};
+ghost use Rattle.std.specs.Prelude.{◌≡◌, ◌<◌, ◌↔◌, fold, length, Some, slice_get, IfOk, OnOk, OnErr, IsTrue};
+ghost use Rattle.vt_sorted.specs.Ascending.{with_item};
+ghost use Rattle.vt_base.specs.Order.{tuple_cmp};
+ghost use Rattle.vt_base.specs.Deltas.{after_coming, after_going, applied, change_of, net, no_change, without};
 
-use crate::{AttrId, ClassId, List, NoMemory, RefId, Rows, Tuple};
+use crate::{AttrId, ClassId, List, NoMemory, Plain, RefId, Rows, Tuple};
 use std::alloc::Global;
 
 /// A change of rows: what was added and what was removed.
@@ -27,21 +29,28 @@ impl Delta {
     pub fn net(alloc: Global, before: &Rows, after: &Rows) -> Result<Delta, NoMemory>
         ensures { IfOk result (λ delta. change_of delta ≡ net before.now.items after.now.items) }
     {
-        Err(NoMemory)
+        let added = rows_without(alloc, before, after)?;
+        let removed = rows_without(alloc, after, before)?;
+        Ok(Delta { added, removed })
     }
 
     /// The rows to which this change leads from the given ones.
     pub fn apply(&self, alloc: Global, rows: &Rows) -> Result<Rows, NoMemory>
         ensures { IfOk result (λ out. out.items ≡ applied (change_of self.now) rows.now.items) }
     {
-        Err(NoMemory)
+        let mut out = rows.copy(alloc)?;
+        remove_all(&mut out, &self.removed);
+        insert_all(alloc, &mut out, &self.added)?;
+        Ok(out)
     }
 
     /// The same change again. The texts in it are shared with the copy.
     pub fn copy(&self, alloc: Global) -> Result<Delta, NoMemory>
         ensures { IfOk result (λ copy. change_of copy ≡ change_of self.now) }
     {
-        Err(NoMemory)
+        let added = self.added.copy(alloc)?;
+        let removed = self.removed.copy(alloc)?;
+        Ok(Delta { added, removed })
     }
 
     /// Whether nothing came and nothing went.
@@ -56,7 +65,14 @@ impl Delta {
         ensures came { OnOk result (change_of self.new ≡ after_coming (change_of self.old) row) }
         ensures unchanged { OnErr result (change_of self.new ≡ change_of self.old) }
     {
-        Err(NoMemory)
+        if self.removed.contains(&row) {
+            self.removed.remove(&row);
+            return Ok(());
+        }
+        match self.added.insert(row) {
+            Ok(_) => Ok(()),
+            Err(_) => Err(NoMemory),
+        }
     }
 
     /// A row goes. A net change stays net: see `a_net_delta_stays_net`.
@@ -64,8 +80,50 @@ impl Delta {
         ensures went { OnOk result (change_of self.new ≡ after_going (change_of self.old) row) }
         ensures unchanged { OnErr result (change_of self.new ≡ change_of self.old) }
     {
-        Err(NoMemory)
+        if self.added.contains(&row) {
+            self.added.remove(&row);
+            return Ok(());
+        }
+        match self.removed.insert(row) {
+            Ok(_) => Ok(()),
+            Err(_) => Err(NoMemory),
+        }
     }
+}
+
+// The rows that the first set lacks.
+fn rows_without(alloc: Global, others: &Rows, rows: &Rows) -> Result<Rows, NoMemory>
+    ensures { IfOk result (λ rest. rest.items ≡ without others.now.items rows.now.items) }
+{
+    let mut rest = Vec::new(alloc);
+    let mut walk = rows.walk();
+    while let Some(row) = walk.next() {
+        if !others.contains(row) {
+            rest.push(row.copy(alloc)?)?;
+        }
+    }
+    Rows::from_ascending(alloc, rest)
+}
+
+fn remove_all(rows: &mut Rows, gone: &Rows)
+    ensures { rows.new.items ≡ without gone.now.items rows.old.items }
+{
+    let mut walk = gone.walk();
+    while let Some(row) = walk.next() {
+        rows.remove(row);
+    }
+}
+
+fn insert_all(alloc: Global, rows: &mut Rows, added: &Rows) -> Result<(), NoMemory>
+    ensures { OnOk result (rows.new.items ≡ fold (with_item tuple_cmp) rows.old.items added.now.items) }
+{
+    let mut walk = added.walk();
+    while let Some(row) = walk.next() {
+        if rows.insert(row.copy(alloc)?).is_err() {
+            return Err(NoMemory);
+        }
+    }
+    Ok(())
 }
 
 /// A change of the rows of a model: the delta of each class, of each attribute and of each
