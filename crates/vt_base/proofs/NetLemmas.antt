@@ -27,8 +27,8 @@ module _ (before now : List (List Value)) (row : List Value) (rise : Ascends bef
     added_back : without before now ≡ without before (with_item tuple_cmp now row)
     added_back = same_rows _ _ (Ascends-without before now rise_too) (Ascends-without before (with_item tuple_cmp now row) (Ascends-with_item now row rise_too))
         (λ q. has-without before now q
-            ∙ told (eq_by_cmp tuple_cmp q row) (has_row now q) (has_row before q) (as_it before row q true before_too)
-            ∙ sym (has-without before (with_item tuple_cmp now row) q ∙ ap (λ b. b && not (has_row before q)) (has-with_item now row q)))
+        ∙ told (eq_by_cmp tuple_cmp q row) (has_row now q) (has_row before q) (as_it before row q true before_too)
+        ∙ sym (has-without before (with_item tuple_cmp now row) q ∙ ap (λ b. b && not (has_row before q)) (has-with_item now row q)))
       where
         told : (s n b : Bool) → (s ≡ true → b ≡ true) → (n && not b) ≡ ((s || n) && not b)
         told true true b is = refl
@@ -38,9 +38,9 @@ module _ (before now : List (List Value)) (row : List Value) (rise : Ascends bef
     removed_back : without_item tuple_cmp (without now before) row ≡ without (with_item tuple_cmp now row) before
     removed_back = same_rows _ _ (Ascends-without_item (without now before) row (Ascends-without now before rise)) (Ascends-without (with_item tuple_cmp now row) before rise)
         (λ q. has-without_item (without now before) row q
-            ∙ ap (λ b. b && not (eq_by_cmp tuple_cmp q row)) (has-without now before q)
-            ∙ told (eq_by_cmp tuple_cmp q row) (has_row now q) (has_row before q)
-            ∙ sym (has-without (with_item tuple_cmp now row) before q ∙ ap (λ b. has_row before q && not b) (has-with_item now row q)))
+        ∙ ap (λ b. b && not (eq_by_cmp tuple_cmp q row)) (has-without now before q)
+        ∙ told (eq_by_cmp tuple_cmp q row) (has_row now q) (has_row before q)
+        ∙ sym (has-without (with_item tuple_cmp now row) before q ∙ ap (λ b. has_row before q && not b) (has-with_item now row q)))
       where
         told : (s n b : Bool) → ((b && not n) && not s) ≡ (b && not (s || n))
         told true true true = refl
@@ -54,9 +54,9 @@ module _ (before now : List (List Value)) (row : List Value) (rise : Ascends bef
     added_anew : with_item tuple_cmp (without before now) row ≡ without before (with_item tuple_cmp now row)
     added_anew = same_rows _ _ (Ascends-with_item (without before now) row (Ascends-without before now rise_too)) (Ascends-without before (with_item tuple_cmp now row) (Ascends-with_item now row rise_too))
         (λ q. has-with_item (without before now) row q
-            ∙ ap (λ b. eq_by_cmp tuple_cmp q row || b) (has-without before now q)
-            ∙ told (eq_by_cmp tuple_cmp q row) (has_row now q) (has_row before q) (as_it before row q false not_before)
-            ∙ sym (has-without before (with_item tuple_cmp now row) q ∙ ap (λ b. b && not (has_row before q)) (has-with_item now row q)))
+        ∙ ap (λ b. eq_by_cmp tuple_cmp q row || b) (has-without before now q)
+        ∙ told (eq_by_cmp tuple_cmp q row) (has_row now q) (has_row before q) (as_it before row q false not_before)
+        ∙ sym (has-without before (with_item tuple_cmp now row) q ∙ ap (λ b. b && not (has_row before q)) (has-with_item now row q)))
       where
         told : (s n b : Bool) → (s ≡ true → b ≡ false) → (s || (n && not b)) ≡ ((s || n) && not b)
         told true n b is = rw (is refl) refl
@@ -65,8 +65,8 @@ module _ (before now : List (List Value)) (row : List Value) (rise : Ascends bef
     removed_still : without now before ≡ without (with_item tuple_cmp now row) before
     removed_still = same_rows _ _ (Ascends-without now before rise) (Ascends-without (with_item tuple_cmp now row) before rise)
         (λ q. has-without now before q
-            ∙ told (eq_by_cmp tuple_cmp q row) (has_row now q) (has_row before q) (as_it before row q false not_before)
-            ∙ sym (has-without (with_item tuple_cmp now row) before q ∙ ap (λ b. has_row before q && not b) (has-with_item now row q)))
+        ∙ told (eq_by_cmp tuple_cmp q row) (has_row now q) (has_row before q) (as_it before row q false not_before)
+        ∙ sym (has-without (with_item tuple_cmp now row) before q ∙ ap (λ b. has_row before q && not b) (has-with_item now row q)))
       where
         told : (s n b : Bool) → (s ≡ true → b ≡ false) → (b && not n) ≡ (b && not (s || n))
         told true n b is = rw (is refl) refl
@@ -76,9 +76,9 @@ module _ (before now : List (List Value)) (row : List Value) (rise : Ascends bef
     added_no_more : without_item tuple_cmp (without before now) row ≡ without before (without_item tuple_cmp now row)
     added_no_more = same_rows _ _ (Ascends-without_item (without before now) row (Ascends-without before now rise_too)) (Ascends-without before (without_item tuple_cmp now row) (Ascends-without_item now row rise_too))
         (λ q. has-without_item (without before now) row q
-            ∙ ap (λ b. b && not (eq_by_cmp tuple_cmp q row)) (has-without before now q)
-            ∙ told (eq_by_cmp tuple_cmp q row) (has_row now q) (has_row before q)
-            ∙ sym (has-without before (without_item tuple_cmp now row) q ∙ ap (λ b. b && not (has_row before q)) (has-without_item now row q)))
+        ∙ ap (λ b. b && not (eq_by_cmp tuple_cmp q row)) (has-without before now q)
+        ∙ told (eq_by_cmp tuple_cmp q row) (has_row now q) (has_row before q)
+        ∙ sym (has-without before (without_item tuple_cmp now row) q ∙ ap (λ b. b && not (has_row before q)) (has-without_item now row q)))
       where
         told : (s n b : Bool) → ((n && not b) && not s) ≡ ((n && not s) && not b)
         told true true true = refl
@@ -90,8 +90,8 @@ module _ (before now : List (List Value)) (row : List Value) (rise : Ascends bef
     removed_as_it_was : without now before ≡ without (without_item tuple_cmp now row) before
     removed_as_it_was = same_rows _ _ (Ascends-without now before rise) (Ascends-without (without_item tuple_cmp now row) before rise)
         (λ q. has-without now before q
-            ∙ told (eq_by_cmp tuple_cmp q row) (has_row now q) (has_row before q) (as_it before row q false not_before)
-            ∙ sym (has-without (without_item tuple_cmp now row) before q ∙ ap (λ b. has_row before q && not b) (has-without_item now row q)))
+        ∙ told (eq_by_cmp tuple_cmp q row) (has_row now q) (has_row before q) (as_it before row q false not_before)
+        ∙ sym (has-without (without_item tuple_cmp now row) before q ∙ ap (λ b. has_row before q && not b) (has-without_item now row q)))
       where
         told : (s n b : Bool) → (s ≡ true → b ≡ false) → (b && not n) ≡ (b && not (n && not s))
         told true n b is = rw (is refl) refl
@@ -103,8 +103,8 @@ module _ (before now : List (List Value)) (row : List Value) (rise : Ascends bef
     added_as_it_was : without before now ≡ without before (without_item tuple_cmp now row)
     added_as_it_was = same_rows _ _ (Ascends-without before now rise_too) (Ascends-without before (without_item tuple_cmp now row) (Ascends-without_item now row rise_too))
         (λ q. has-without before now q
-            ∙ told (eq_by_cmp tuple_cmp q row) (has_row now q) (has_row before q) (as_it before row q true before_too)
-            ∙ sym (has-without before (without_item tuple_cmp now row) q ∙ ap (λ b. b && not (has_row before q)) (has-without_item now row q)))
+        ∙ told (eq_by_cmp tuple_cmp q row) (has_row now q) (has_row before q) (as_it before row q true before_too)
+        ∙ sym (has-without before (without_item tuple_cmp now row) q ∙ ap (λ b. b && not (has_row before q)) (has-without_item now row q)))
       where
         told : (s n b : Bool) → (s ≡ true → b ≡ true) → (n && not b) ≡ ((n && not s) && not b)
         told true true b is = rw (is refl) refl
@@ -115,9 +115,9 @@ module _ (before now : List (List Value)) (row : List Value) (rise : Ascends bef
     removed_anew : with_item tuple_cmp (without now before) row ≡ without (without_item tuple_cmp now row) before
     removed_anew = same_rows _ _ (Ascends-with_item (without now before) row (Ascends-without now before rise)) (Ascends-without (without_item tuple_cmp now row) before rise)
         (λ q. has-with_item (without now before) row q
-            ∙ ap (λ b. eq_by_cmp tuple_cmp q row || b) (has-without now before q)
-            ∙ told (eq_by_cmp tuple_cmp q row) (has_row now q) (has_row before q) (as_it before row q true before_too)
-            ∙ sym (has-without (without_item tuple_cmp now row) before q ∙ ap (λ b. has_row before q && not b) (has-without_item now row q)))
+        ∙ ap (λ b. eq_by_cmp tuple_cmp q row || b) (has-without now before q)
+        ∙ told (eq_by_cmp tuple_cmp q row) (has_row now q) (has_row before q) (as_it before row q true before_too)
+        ∙ sym (has-without (without_item tuple_cmp now row) before q ∙ ap (λ b. has_row before q && not b) (has-without_item now row q)))
       where
         told : (s n b : Bool) → (s ≡ true → b ≡ true) → (s || (b && not n)) ≡ (b && not (n && not s))
         told true true b is = rw (is refl) refl
@@ -131,10 +131,10 @@ module _ (before now : List (List Value)) (row : List Value) (rise : Ascends bef
   after_coming-net absent =
       rw (has-without now before row ∙ ap (λ b. has_row before row && not b) absent)
       (elim (has_row before row) as (λ b. has_row before row ≡ b →
-          cond (b && true)
-              (record { added = without before now; removed = without_item tuple_cmp (without now before) row })
-              (record { added = with_item tuple_cmp (without before now) row; removed = without now before })
-          ≡ net before (with_item tuple_cmp now row)) [
+      cond (b && true)
+      (record { added = without before now; removed = without_item tuple_cmp (without now before) row })
+      (record { added = with_item tuple_cmp (without before now) row; removed = without now before })
+      ≡ net before (with_item tuple_cmp now row)) [
         | true ↦ λ e. λ i. record { added = added_back e i; removed = removed_back e i }
         | false ↦ λ e. λ i. record { added = added_anew e i; removed = removed_still e i }
       ] refl)
@@ -143,10 +143,10 @@ module _ (before now : List (List Value)) (row : List Value) (rise : Ascends bef
   after_going-net there =
       rw (has-without before now row ∙ ap (λ b. b && not (has_row before row)) there)
       (elim (has_row before row) as (λ b. has_row before row ≡ b →
-          cond (not b)
-              (record { added = without_item tuple_cmp (without before now) row; removed = without now before })
-              (record { added = without before now; removed = with_item tuple_cmp (without now before) row })
-          ≡ net before (without_item tuple_cmp now row)) [
+      cond (not b)
+      (record { added = without_item tuple_cmp (without before now) row; removed = without now before })
+      (record { added = without before now; removed = with_item tuple_cmp (without now before) row })
+      ≡ net before (without_item tuple_cmp now row)) [
         | true ↦ λ e. λ i. record { added = added_as_it_was e i; removed = removed_anew e i }
         | false ↦ λ e. λ i. record { added = added_no_more e i; removed = removed_as_it_was e i }
       ] refl)

@@ -7,7 +7,7 @@ use Rattle.vt_base.proofs.delta.insert_all.Given as goal
 
 -- the rows so far, with those to come
 abbrev pub invariant-loop-row : goal.invariant-loop-row
-invariant-loop-row g l = fold (with_item tuple_cmp) l.rows.items l.walk ≡ fold (with_item tuple_cmp) l.fn.rows.items l.fn.added.items
+invariant-loop-row l = fold (with_item tuple_cmp) l.rows.items l.walk ≡ fold (with_item tuple_cmp) l.fn.rows.items l.fn.added.items
 
 abbrev pub decreases-loop-row : goal.decreases-loop-row
-decreases-loop-row g l = length l.walk
+decreases-loop-row l = length l.walk

@@ -7,7 +7,7 @@ use Rattle.vt_base.proofs.delta.remove_all.Given as goal
 
 -- the rows so far, without those to come
 abbrev pub invariant-loop-row : goal.invariant-loop-row
-invariant-loop-row g l = fold (without_item tuple_cmp) l.rows.items l.walk ≡ fold (without_item tuple_cmp) l.fn.rows.items l.fn.gone.items
+invariant-loop-row l = fold (without_item tuple_cmp) l.rows.items l.walk ≡ fold (without_item tuple_cmp) l.fn.rows.items l.fn.gone.items
 
 abbrev pub decreases-loop-row : goal.decreases-loop-row
-decreases-loop-row g l = length l.walk
+decreases-loop-row l = length l.walk

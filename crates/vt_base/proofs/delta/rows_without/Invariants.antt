@@ -7,7 +7,7 @@ use Rattle.vt_base.proofs.delta.rows_without.Given as goal
 
 -- what was kept, and what is kept of the rows to come
 abbrev pub invariant-loop-row : goal.invariant-loop-row
-invariant-loop-row g l = l.rest.items ++ without l.fn.others.items l.walk ≡ without l.fn.others.items l.fn.rows.items
+invariant-loop-row l = l.rest.items ++ without l.fn.others.items l.walk ≡ without l.fn.others.items l.fn.rows.items
 
 abbrev pub decreases-loop-row : goal.decreases-loop-row
-decreases-loop-row g l = length l.walk
+decreases-loop-row l = length l.walk
