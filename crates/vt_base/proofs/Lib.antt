@@ -2,5 +2,6 @@ pub mod OrderLemmas
 pub mod RowsLemmas
 pub mod DeltaLemmas
 pub mod NetLemmas
+pub mod KeptLemmas
 pub mod WrittenLemmas
 pub mod FurtherLemmas

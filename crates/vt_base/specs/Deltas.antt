@@ -1,5 +1,5 @@
 -- Deltas: how a set of rows, and all rows of a base, came from what they were before.
-use Rattle.std.specs.Prelude.{◌≡◌, ◌<◌, ℕ, List, [], filter, fold, length, not, cond, true, false, Option, Some, None, slice_get}
+use Rattle.std.specs.Prelude.{◌≡◌, ◌<◌, ℕ, List, [], filter, fold, length, not, cond, true, false, Option, Some, None, map, slice_get, slice_set, slice_index_or}
 use Rattle.vt_sorted.specs.Ascending.{with_item, without_item}
 use Rattle.vt_base.specs.Order.{tuple_cmp}
 use Rattle.vt_base.specs.Rows.{Ascends, has_row}
@@ -54,6 +54,14 @@ after_going change row = cond (has_row change.added row)
 -- a delta's rows
 abbrev pub change_of : Delta → Change
 change_of delta = record { added = delta.added.items; removed = delta.removed.items }
+
+-- the changes of some deltas
+abbrev pub changes_of : List Delta → List Change
+changes_of deltas = map change_of deltas
+
+-- the changes, that at one number turned into another
+abbrev pub turned_at : (Change → Change) → List Change → ℕ → List Change
+turned_at turn changes n = slice_set changes n (turn (slice_index_or changes n no_change))
 
 -- ---- all rows of a base
 

@@ -24,6 +24,7 @@ mod tuple;
 // What queries ask a model for, and how it changed.
 mod base;
 mod delta;
+mod deltas;
 // Activations of rules, and how an agenda picks one.
 mod agenda;
 // Printing.
@@ -53,6 +54,7 @@ pub use vt_sorted::Walk;
 // What queries ask a model for, and how it changed.
 pub use base::Base;
 pub use delta::{BaseDelta, Delta};
+pub use deltas::Deltas;
 // Activations of rules, and how an agenda picks one.
 pub use agenda::{Policy, State};
 // Printing.
