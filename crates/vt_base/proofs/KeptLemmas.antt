@@ -1,6 +1,7 @@
 -- Deltas of some numbers, of which those up to one are kept.
 use Rattle.std.proofs.Common.{◌≡◌, ◌<◌, ◌≤◌, ◌+◌, ◌-◌, ℕ, zero, suc, length, List, [], ◌∷◌, Option, Some, None, refl, sym, ap, ◌∙◌, arith}
-use Rattle.std.specs.Prelude.{◌++◌, map, replicate, slice_get, slice_set, slice_index_or}
+use Rattle.std.proofs.Math.Seq.{map-set_same}
+use Rattle.std.specs.Prelude.{◌++◌, map, replicate, slice_get, slice_set, slice_index_or, Result, Ok, Err, OnErr}
 use Rattle.vt_base.specs.Deltas.{Change, change_of, no_change, changes_of, turned_at}
 use Rattle.vt_base.specs.declared.delta.Delta.{Delta}
 
@@ -29,3 +30,35 @@ pub changes-turned : (turn : Change → Change) (ds : List Delta) (rest : List C
 changes-turned turn [] rest n d old below is = absurd (omega (arith, below))
 changes-turned turn (x ∷ ds) rest zero d old below is = ap (λ c. c ∷ (changes_of ds ++ rest)) is
 changes-turned turn (x ∷ ds) rest (suc n) d old below is = ap (λ cs. change_of x ∷ cs) (changes-turned turn ds rest n d old (omega (arith, below)) is)
+
+-- ---- what a call leaves, from what it does to the parts
+
+module _ (seen ds kept : List Delta) (beyond left : ℕ) (empty : Delta) (is : change_of empty ≡ no_change)
+    (view_is : ds ++ replicate beyond empty ≡ seen)
+    (same : changes_of kept ++ replicate left no_change ≡ changes_of ds ++ replicate beyond no_change) where
+  -- more are kept
+  pub changes-kept : changes_of kept ++ replicate left no_change ≡ changes_of seen
+  changes-kept = same ∙ sym (changes-seen ds beyond empty is) ∙ ap changes_of view_is
+
+  pub changes-more : changes_of (kept ++ replicate left empty) ≡ changes_of seen
+  changes-more = changes-seen kept left empty is ∙ changes-kept
+
+  module _ (n : ℕ) (below : n < length kept) (old d : Delta) (old_is : slice_index_or kept n old ≡ old) where
+    -- one of those that are kept turned
+    pub changes-one_turned : (turn : Change → Change) → change_of d ≡ turn (change_of old) → changes_of (slice_set kept n d ++ replicate left empty) ≡ turned_at turn (changes_of seen) n
+    changes-one_turned turn turned =
+        changes-seen (slice_set kept n d) left empty is
+        ∙ changes-turned turn kept (replicate left no_change) n d old below (turned ∙ ap (λ x. turn (change_of x)) (sym old_is))
+        ∙ ap (λ cs. turned_at turn cs n) changes-kept
+
+    -- one of those that are kept stayed
+    pub changes-one_same : change_of d ≡ change_of old → changes_of (slice_set kept n d ++ replicate left empty) ≡ changes_of seen
+    changes-one_same stayed =
+        changes-seen (slice_set kept n d) left empty is
+        ∙ ap (λ cs. cs ++ replicate left no_change) (map-set_same change_of kept n d old (stayed ∙ ap change_of (sym old_is)))
+        ∙ changes-kept
+
+-- what holds anyway holds on an Err
+pub on_err : {T E : Type 0} (r : Result T E) {P : Type 0} → P → OnErr r P
+on_err (Ok x) p = tt
+on_err (Err e) p = p

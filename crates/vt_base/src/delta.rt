@@ -1,10 +1,10 @@
 // How rows changed, and how all rows of a model did.
-ghost use Rattle.std.specs.Prelude.{◌≡◌, ◌<◌, ◌↔◌, fold, length, Some, slice_get, IfOk, OnOk, OnErr, IsTrue};
+ghost use Rattle.std.specs.Prelude.{◌≡◌, ◌<◌, ◌↔◌, fold, length, replicate, Some, slice_get, IfOk, OnOk, OnErr, IsTrue};
 ghost use Rattle.vt_sorted.specs.Ascending.{with_item};
 ghost use Rattle.vt_base.specs.Order.{tuple_cmp};
-ghost use Rattle.vt_base.specs.Deltas.{after_coming, after_going, applied, change_of, net, no_change, without};
+ghost use Rattle.vt_base.specs.Deltas.{after_coming, after_going, applied, change_of, changes_of, net, no_change, without};
 
-use crate::{AttrId, ClassId, List, NoMemory, Plain, RefId, Rows, Tuple};
+use crate::{AttrId, ClassId, Deltas, List, NoMemory, Plain, RefId, Rows, Tuple};
 use std::alloc::Global;
 
 /// A change of rows: what was added and what was removed.
@@ -130,9 +130,9 @@ fn insert_all(alloc: Global, rows: &mut Rows, added: &Rows) -> Result<(), NoMemo
 /// reference, at its number.
 #[derive(Debug, Drop)]
 pub struct BaseDelta {
-    classes: List<Delta>,
-    attributes: List<Delta>,
-    references: List<Delta>,
+    pub classes: Deltas,
+    pub attributes: Deltas,
+    pub references: Deltas,
 }
 
 impl BaseDelta {
@@ -143,9 +143,22 @@ impl BaseDelta {
         ensures references { result.references ≡ references }
     {
         BaseDelta {
-            classes,
-            attributes,
-            references,
+            classes: Deltas::from_list(classes),
+            attributes: Deltas::from_list(attributes),
+            references: Deltas::from_list(references),
+        }
+    }
+
+    /// No change, where there are so many classes, attributes and references. It takes no memory.
+    pub fn none(alloc: Global, classes: usize, attributes: usize, references: usize) -> BaseDelta
+        ensures classes { changes_of result.classes ≡ replicate classes no_change }
+        ensures attributes { changes_of result.attributes ≡ replicate attributes no_change }
+        ensures references { changes_of result.references ≡ replicate references no_change }
+    {
+        BaseDelta {
+            classes: Deltas::new(alloc, classes),
+            attributes: Deltas::new(alloc, attributes),
+            references: Deltas::new(alloc, references),
         }
     }
 
@@ -154,7 +167,7 @@ impl BaseDelta {
         requires there { c.0 < length self.now.classes }
         ensures { slice_get self.now.classes c.0 ≡ Some result.now }
     {
-        &self.classes.as_slice()[c.0 as usize]
+        self.classes.get(c.0)
     }
 
     /// How the objects with a value for an attribute, or these values, changed.
@@ -162,7 +175,7 @@ impl BaseDelta {
         requires there { a.0 < length self.now.attributes }
         ensures { slice_get self.now.attributes a.0 ≡ Some result.now }
     {
-        &self.attributes.as_slice()[a.0 as usize]
+        self.attributes.get(a.0)
     }
 
     /// How the sources and targets of a reference changed.
@@ -170,6 +183,6 @@ impl BaseDelta {
         requires there { r.0 < length self.now.references }
         ensures { slice_get self.now.references r.0 ≡ Some result.now }
     {
-        &self.references.as_slice()[r.0 as usize]
+        self.references.get(r.0)
     }
 }

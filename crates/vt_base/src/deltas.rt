@@ -92,12 +92,7 @@ impl Deltas {
 }
 
 // Keeps the deltas up to a number.
-fn keep_to(
-    alloc: Global,
-    kept: &mut Vec<Delta>,
-    beyond: &mut usize,
-    n: u16,
-) -> Result<(), NoMemory>
+fn keep_to(alloc: Global, kept: &mut Vec<Delta>, beyond: &mut usize, n: u16) -> Result<(), NoMemory>
     requires there { n < length kept.old.items + beyond.old }
     ensures reached { OnOk result (n < length kept.new.items) }
     ensures same { changes_of kept.new.items ++ replicate beyond.new no_change ≡

@@ -1,5 +1,5 @@
 // What a change of rows is, over small sets of numbers.
-use crate::{Delta, NoMemory, Rows, Tuple, Value};
+use crate::{AttrId, BaseDelta, ClassId, Delta, List, NoMemory, RefId, Rows, Tuple, Value};
 use std::alloc::Global;
 use std::test::Fail;
 
@@ -56,5 +56,26 @@ fn rows_that_come_and_go_again_leave_no_trace(rt: HostRuntime) -> Result<(), Fai
     assert!(rt; are(alloc, &delta.removed, &[2])?);
     delta.row_comes(row(alloc, 2)?)?;
     assert!(rt; delta.is_empty());
+    Ok(())
+}
+
+#[test]
+fn a_row_that_comes_to_one_class_is_seen_there_alone(rt: HostRuntime) -> Result<(), Fail> {
+    let alloc = rt.alloc();
+    let mut change = BaseDelta::none(alloc, 3, 2, 1);
+    change.classes.row_comes(1, row(alloc, 7)?)?;
+    change.attributes.row_goes(0, row(alloc, 8)?)?;
+    assert!(rt; change.class(ClassId(0)).is_empty());
+    assert!(rt; are(alloc, &change.class(ClassId(1)).added, &[7])?);
+    assert!(rt; change.class(ClassId(2)).is_empty());
+    assert!(rt; are(alloc, &change.attr(AttrId(0)).removed, &[8])?);
+    assert!(rt; change.attr(AttrId(1)).is_empty());
+    assert!(rt; change.reference(RefId(0)).is_empty());
+
+    let mut classes = List::new(alloc);
+    classes.add(Delta::net(alloc, &rows(alloc, &[1])?, &rows(alloc, &[2])?)?)?;
+    let kept = BaseDelta::new(classes, List::new(alloc), List::new(alloc));
+    assert!(rt; are(alloc, &kept.class(ClassId(0)).added, &[2])?);
+    assert!(rt; are(alloc, &kept.class(ClassId(0)).removed, &[1])?);
     Ok(())
 }
