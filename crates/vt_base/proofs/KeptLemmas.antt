@@ -2,7 +2,7 @@
 use Rattle.std.proofs.Common.{◌≡◌, ◌<◌, ◌≤◌, ◌+◌, ◌-◌, ℕ, zero, suc, length, List, [], ◌∷◌, Option, Some, None, refl, sym, ap, ◌∙◌, arith}
 use Rattle.std.proofs.Math.Seq.{map-set_same}
 use Rattle.std.specs.Prelude.{◌++◌, map, replicate, slice_get, slice_set, slice_index_or, Result, Ok, Err, OnErr}
-use Rattle.vt_base.specs.Deltas.{Change, change_of, no_change, changes_of, turned_at}
+use Rattle.vt_base.specs.Changes.{Change, change_of, no_change, changes_of, turned_at}
 use Rattle.vt_base.specs.declared.delta.Delta.{Delta}
 
 -- one more empty delta is kept

@@ -5,7 +5,7 @@ use Rattle.std.specs.Ordering.{eq_by_cmp, is_eq}
 use Rattle.vt_sorted.specs.Ascending.{with_item, without_item}
 use Rattle.vt_base.specs.Order.{tuple_cmp}
 use Rattle.vt_base.specs.Rows.{Ascends, has_row}
-use Rattle.vt_base.specs.Deltas.{Change, without, net, after_coming, after_going}
+use Rattle.vt_base.specs.Changes.{Change, without, net, after_coming, after_going}
 use Rattle.vt_base.specs.Inside.OrderLaws.{IsTotalOrder-tuple_cmp}
 use Rattle.vt_base.specs.declared.value.Value.{Value}
 use Rattle.vt_base.proofs.OrderLemmas.{exact-tuple_cmp}

@@ -2,7 +2,7 @@
 ghost use Rattle.std.specs.Prelude.{◌≡◌, ◌<◌, ◌↔◌, fold, length, replicate, Some, slice_get, IfOk, OnOk, OnErr, IsTrue};
 ghost use Rattle.vt_sorted.specs.Ascending.{with_item};
 ghost use Rattle.vt_base.specs.Order.{tuple_cmp};
-ghost use Rattle.vt_base.specs.Deltas.{after_coming, after_going, applied, change_of, changes_of, net, no_change, without};
+ghost use Rattle.vt_base.specs.Changes.{after_coming, after_going, applied, change_of, changes_of, net, no_change, without};
 
 use crate::{AttrId, ClassId, Deltas, List, NoMemory, Plain, RefId, Rows, Tuple};
 use std::alloc::Global;

@@ -1,6 +1,6 @@
 // A delta for each of some numbers, kept up to the last that has got a row.
 ghost use Rattle.std.specs.Prelude.{◌≡◌, ◌<◌, ◌+◌, ◌++◌, length, Some, slice_get, OnOk, OnErr, replicate};
-ghost use Rattle.vt_base.specs.Deltas.{after_coming, after_going, changes_of, no_change, turned_at};
+ghost use Rattle.vt_base.specs.Changes.{after_coming, after_going, changes_of, no_change, turned_at};
 
 use crate::{Delta, List, NoMemory, Tuple};
 use std::alloc::Global;
@@ -20,7 +20,7 @@ pub struct Deltas {
 impl Model for Deltas {
     ghost use Rattle.std.specs.Prelude.{◌≡◌, ◌++◌, List, replicate};
     ghost use Rattle.vt_base.specs.declared.delta.Delta.{Delta as Item};
-    ghost use Rattle.vt_base.specs.Deltas.{change_of, no_change};
+    ghost use Rattle.vt_base.specs.Changes.{change_of, no_change};
 
     ghost Value = { List Item };
 

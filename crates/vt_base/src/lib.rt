@@ -3,8 +3,8 @@
 //! It stands on `vt_shared`, `vt_facts` and `vt_sorted`, keeps short tuples by `smallvec`, and prints by
 //! `serde_json` and `itoa`. Read `vt_facts/specs/Room.antt`,
 //! `vt_sorted/specs/Ascending.antt`, `specs/Order.antt`, `specs/Rows.antt`,
-//! `specs/Aggregate.antt`, `specs/Base.antt`, `specs/Deltas.antt`, `specs/Names.antt`, then
-//! `specs/Written.antt`: these are trusted.
+//! `specs/Aggregate.antt`, `specs/Base.antt`, `specs/Changes.antt`, `specs/Deltas.antt`,
+//! `specs/Names.antt`, then `specs/Written.antt`: these are trusted.
 #![tactic(auto)]
 
 // Memory: what wanting it answers, and what can be copied.

@@ -1,6 +1,6 @@
 use Rattle.std.proofs.Common.{rules, ◌≡◌, sym, subst}
 use Rattle.vt_base.specs.Rows.{Ascends}
-use Rattle.vt_base.specs.Deltas.{without}
+use Rattle.vt_base.specs.Changes.{without}
 use Rattle.vt_base.proofs.DeltaLemmas.{Ascends-without}
 use Rattle.vt_base.proofs.delta.rows_without.Goals as goal
 

@@ -2,7 +2,7 @@ use Rattle.std.proofs.Common.{◌≡◌, length}
 use Rattle.std.specs.Prelude.{◌++◌, fold}
 use Rattle.vt_sorted.specs.Ascending.{with_item, without_item}
 use Rattle.vt_base.specs.Order.{tuple_cmp}
-use Rattle.vt_base.specs.Deltas.{without}
+use Rattle.vt_base.specs.Changes.{without}
 use Rattle.vt_base.proofs.delta.rows_without.Given as goal
 
 -- what was kept, and what is kept of the rows to come

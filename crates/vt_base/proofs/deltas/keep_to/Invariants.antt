@@ -1,6 +1,6 @@
 use Rattle.std.proofs.Common.{◌≡◌, ◌<◌, ◌+◌, ◌-◌, length}
 use Rattle.std.specs.Prelude.{◌++◌, replicate}
-use Rattle.vt_base.specs.Deltas.{changes_of, no_change}
+use Rattle.vt_base.specs.Changes.{changes_of, no_change}
 use Rattle.vt_base.proofs.deltas.keep_to.Given as goal
 
 -- the deltas stay as they are seen, and the number is one of them

@@ -1,7 +1,7 @@
 use Rattle.std.proofs.Common.{rules, ◌≡◌, ◌++◌}
 use Rattle.std.specs.Prelude.{slice_index_or}
 use Rattle.std.proofs.lemmas.Result.{IfOk-weaker, IfErr-weaker}
-use Rattle.vt_base.specs.Deltas.{after_going}
+use Rattle.vt_base.specs.Changes.{after_going}
 use Rattle.vt_base.proofs.KeptLemmas.{changes-more, changes-one_turned, changes-one_same, on_err}
 use Rattle.vt_base.proofs.deltas.Deltas.row_goes.Goals as goal
 
