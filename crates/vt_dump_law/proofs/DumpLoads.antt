@@ -1,5 +1,5 @@
 -- The dump of a valid model loads to it.
-use Rattle.std.proofs.Common.{◌≡◌, ℕ, List, [], refl, ap, ◌∙◌}
+use Rattle.std.proofs.Common.{◌≡◌, ℕ, List, [], ap, ◌∙◌}
 use Rattle.std.specs.Prelude.{Some, Ok}
 use Rattle.vt_json.specs.Json.{json_of}
 use Rattle.vt_model.specs.Metamodel.{Metamodel}

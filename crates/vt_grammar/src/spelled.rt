@@ -1,5 +1,5 @@
 // A type of values that lexemes spell, and the end of its reading.
-ghost use Rattle.std.specs.Prelude.{◌≡◌, ◌≢◌, true, ℕ, length, Ok, Err, IfOk};
+ghost use Rattle.std.specs.Prelude.{◌≡◌, ◌≢◌, true, ℕ, Ok, Err, IfOk};
 ghost use Rattle.vt_grammar.specs.Grammar.{Grammar, Spells};
 ghost use Rattle.vt_grammar.specs.Fault.{IsFault};
 ghost use Rattle.vt_grammar.specs.SameAs.{SameAs};

@@ -1,6 +1,5 @@
 //! Declarations as `pattern Name(a, b);`, read by a grammar, and what their faults are. In a table each
 //! line is a case: words with blanks between them, which are lexemes, and what they give.
-ghost use Rattle.std.specs.Prelude.{◌≡◌};
 ghost use Rattle.vt_grammar.specs.Inside.Heading.{name, names};
 ghost use Rattle.vt_grammar.specs.Reading.{read as reading};
 ghost use Rattle.vt_grammar.specs.Gives.{Gives};

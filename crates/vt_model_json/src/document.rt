@@ -1,9 +1,7 @@
 // The parts of a model document, and how each is read.
-ghost use Rattle.std.specs.Prelude.{◌≡◌, ◌&&◌, ◌≤◌, Some, None, nat_le, unwrap_or, if◌then◌else◌};
-ghost use Rattle.serde_json.specs.View.{view};
-ghost use Rattle.vt_json.specs.Shape.{Reads};
+ghost use Rattle.std.specs.Prelude.{◌≡◌, ◌&&◌, Some, None, unwrap_or, if◌then◌else◌};
 ghost use Rattle.vt_meta.specs.Document.{has_format_one};
-ghost use Rattle.vt_model_json.specs.ModelDocument.{entry_shape, object_shape, document_shape, number_at, rise, above_all, with_next};
+ghost use Rattle.vt_model_json.specs.ModelDocument.{entry_shape, object_shape, document_shape, rise, above_all};
 
 use serde_json::Value;
 use std::alloc::Global;

@@ -1,5 +1,4 @@
 // The command that a line spells.
-ghost use Rattle.std.specs.Prelude.{◌≡◌};
 ghost use Rattle.vt_script.specs.Commands.{edited, change_of, commanded, command_of};
 ghost use Rattle.vt_script.specs.Inside.Gives.{Gives};
 

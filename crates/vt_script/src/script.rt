@@ -1,6 +1,5 @@
 // From bytes to commands, or the first fault.
 ghost use Rattle.std.specs.Prelude.{◌≡◌, ◌<◌, ◌^◌, ◌∷◌, ◌||◌, ◌==◌, length, slice_get, option_map, IfOk, IfErr, Ok};
-ghost use Rattle.std.specs.List.{list_all};
 ghost use Rattle.vt_facts.specs.Lines.{lines_of};
 ghost use Rattle.vt_script.specs.Commands.{command_of};
 ghost use Rattle.vt_script.specs.Script.{is_blank, is_remark, written, commands_of, script_of, IsFaultOf};

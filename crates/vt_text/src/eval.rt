@@ -1,6 +1,6 @@
 // The value of an expression. Nothing here takes memory.
 ghost use Rattle.std.specs.Prelude.{◌≡◌};
-ghost use Rattle.vt_text.specs.Operators.{negative, negation, equal, equality, both_hold, either_holds, on_ints, applied, remainder};
+ghost use Rattle.vt_text.specs.Operators.{negative, negation, equal, both_hold, either_holds, on_ints, applied, remainder};
 ghost use Rattle.vt_text.specs.Expression.{value_of, slot_value};
 ghost use Rattle.vt_text.specs.Inside.Chains.{chain_value};
 

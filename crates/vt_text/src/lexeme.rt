@@ -1,5 +1,5 @@
 // Tokens as lexemes.
-ghost use Rattle.std.specs.Prelude.{◌≡◌, IfOk, [], map, drop, ◌++◌, slice_range, unwrap_or};
+ghost use Rattle.std.specs.Prelude.{◌≡◌, IfOk, [], slice_range, unwrap_or};
 ghost use Rattle.std.specs.List.{AllByRecursion};
 ghost use Rattle.vt_grammar.specs.declared.symbol.Symbol.TheVariants as symbol;
 ghost use Rattle.vt_text.specs.Spelling.{Spells};

@@ -1,5 +1,5 @@
 // The tokens of a text.
-ghost use Rattle.std.specs.Prelude.{◌≡◌, ◌+◌, ◌≤◌, ◌<◌, ◌^◌, ◌==◌, ℕ, Err, length, take, drop, count_by, ◌++◌, IfOk, OnOk, MatchOption};
+ghost use Rattle.std.specs.Prelude.{◌≡◌, ◌+◌, ◌≤◌, ◌<◌, ◌^◌, ◌==◌, ℕ, Err, length, count_by, ◌++◌, IfOk, OnOk, MatchOption};
 ghost use Rattle.vt_text.specs.Spelling.{Spells, IsBadAt};
 ghost use Rattle.vt_text.specs.Inside.Scanned.{StandsFirst, NothingFirst, token_placed};
 

@@ -1,9 +1,9 @@
 // The piece at the front of a text: a token, or what stands between tokens.
-ghost use Rattle.std.specs.Prelude.{◌≡◌, ◌^◌, true, Some, None, ◌+◌, ◌≤◌, ◌<◌, ℕ, not, ◌==◌, ◌&&◌, List, ◌∷◌, [], ◌++◌, length, Option, IfSome, IfNone, is_some};
+ghost use Rattle.std.specs.Prelude.{◌≡◌, ◌^◌, true, Some, None, ◌+◌, ◌≤◌, ◌<◌, ◌==◌, ◌&&◌, ◌∷◌, [], length, Option, IfSome, is_some};
 ghost use Rattle.std.specs.List.{prefix_len};
 ghost use Rattle.std.specs.Char.{is_ascii_digit};
 ghost use Rattle.vt_text.specs.Lexicon.{begins_word, goes_on, is_in_line, escaped, is_single_mark, is_double_mark};
-ghost use Rattle.vt_text.specs.Inside.Scan.{opening, is_numeral, string_end, comment_end, begins_with, cut_word, cut_number, cut_line_comment, cut_mark, piece_up_to, piece_if, cut};
+ghost use Rattle.vt_text.specs.Inside.Scan.{opening, is_numeral, string_end, comment_end, begins_with, cut_word, cut_number, cut_mark, piece_up_to, cut};
 
 use crate::TokenKind;
 

@@ -1,6 +1,5 @@
 // Whether patterns are narrow, and the program that narrow ones make.
-ghost use Rattle.std.specs.Prelude.{◌≡◌, ◌+◌, ◌++◌, ◌≤◌, ◌<◌, ◌==◌, ◌&&◌, IfOk, OnOk, true, Some, None, length, map, filter, drop, flat_map, nat_le, nat_eq, is_some, count_by};
-ghost use Rattle.std.specs.Cmp.Lexicographic.{pointwise};
+ghost use Rattle.std.specs.Prelude.{◌≡◌, ◌+◌, ◌++◌, ◌≤◌, ◌<◌, ◌==◌, ◌&&◌, IfOk, OnOk, true, Some, None, length, map, filter, flat_map, is_some};
 ghost use Rattle.std.specs.List.{list_all, list_any};
 ghost use Rattle.vt_facts.specs.Names.{is_distinct};
 ghost use Rattle.vt_vql.specs.Resolving.{all_of, is_kind, use_of, kind_of_attribute, uses_of, agree, all_agree, each_stands, has_few_constraints, has_few_variables, has_known_uses, has_kinds, narrow_pattern, narrow_program};

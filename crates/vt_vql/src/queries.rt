@@ -1,5 +1,5 @@
 // From bytes to a program, or the first fault.
-ghost use Rattle.std.specs.Prelude.{◌≡◌, ◌≢◌, ◌^◌, ◌<◌, ℕ, IfOk, IfErr, length, Ok, Err, Some, None};
+ghost use Rattle.std.specs.Prelude.{◌≡◌, ◌≢◌, ◌^◌, ◌<◌, IfOk, IfErr, length, Ok, Err, Some, None};
 ghost use Rattle.vt_grammar.specs.Grammar.{Spells};
 ghost use Rattle.vt_grammar.specs.declared.stop.Stop.TheVariants.{Fault, NoMemory as WantOfMemory};
 ghost use Rattle.vt_model.specs.Base.{counts_of};

@@ -1,5 +1,5 @@
 // What patterns make over a metamodel: names as numbers, and a program of them.
-ghost use Rattle.std.specs.Prelude.{◌≡◌, ◌+◌, ◌*◌, ◌^◌, ◌≤◌, ◌<◌, ◌++◌, [], ◌∷◌, IfOk, OnOk, Some, None, length, map, drop, option_map};
+ghost use Rattle.std.specs.Prelude.{◌≡◌, ◌+◌, ◌*◌, ◌^◌, ◌≤◌, ◌<◌, IfOk, OnOk, Some, None, length};
 ghost use Rattle.vt_model.specs.Metamodel.{class_named, feature};
 ghost use Rattle.vt_query.specs.declared.program.Term.TheVariants.{Var};
 ghost use Rattle.vt_vql.specs.Scope.{with_constraint, with_constraints};

@@ -1,5 +1,5 @@
 // The variables of a body, and their numbers.
-ghost use Rattle.std.specs.Prelude.{◌≡◌, ◌+◌, ◌*◌, ◌^◌, ◌≤◌, ◌<◌, IfOk, OnOk, length, position, map, drop, ◌++◌};
+ghost use Rattle.std.specs.Prelude.{◌≡◌, ◌^◌, ◌<◌, IfOk, OnOk, length, position};
 ghost use Rattle.std.specs.List.{list_any};
 ghost use Rattle.vt_query.specs.declared.program.Term.TheVariants.{Var};
 ghost use Rattle.vt_vql.specs.Scope.{has_name, with_term, number_of, with_constraint, with_constraints};

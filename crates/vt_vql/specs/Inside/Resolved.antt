@@ -1,5 +1,5 @@
 -- How an answer on patterns stands to what they make.
-use Rattle.std.specs.Prelude.{◌≡◌, List, ◌++◌, Option, Some, None, Result, Ok, Err}
+use Rattle.std.specs.Prelude.{◌≡◌, Option, Some, None, Result, Ok, Err}
 use Rattle.vt_vql.specs.declared.fault.Stuck.{Stuck}
 use Rattle.vt_vql.specs.declared.fault.Stuck.TheVariants.{NotNarrow, NoMemory}
 
