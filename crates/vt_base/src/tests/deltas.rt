@@ -66,16 +66,21 @@ fn a_row_that_comes_to_one_class_is_seen_there_alone(rt: HostRuntime) -> Result<
     change.classes.row_comes(1, row(alloc, 7)?)?;
     change.attributes.row_goes(0, row(alloc, 8)?)?;
     assert!(rt; change.class(ClassId(0)).is_empty());
-    assert!(rt; are(alloc, &change.class(ClassId(1)).added, &[7])?);
+    let came = change.class(ClassId(1));
+    assert!(rt; are(alloc, &came.added, &[7])?);
     assert!(rt; change.class(ClassId(2)).is_empty());
-    assert!(rt; are(alloc, &change.attr(AttrId(0)).removed, &[8])?);
+    let went = change.attr(AttrId(0));
+    assert!(rt; are(alloc, &went.removed, &[8])?);
     assert!(rt; change.attr(AttrId(1)).is_empty());
     assert!(rt; change.reference(RefId(0)).is_empty());
 
     let mut classes = List::new(alloc);
-    classes.add(Delta::net(alloc, &rows(alloc, &[1])?, &rows(alloc, &[2])?)?)?;
+    let before = rows(alloc, &[1])?;
+    let after = rows(alloc, &[2])?;
+    classes.add(Delta::net(alloc, &before, &after)?)?;
     let kept = BaseDelta::new(classes, List::new(alloc), List::new(alloc));
-    assert!(rt; are(alloc, &kept.class(ClassId(0)).added, &[2])?);
-    assert!(rt; are(alloc, &kept.class(ClassId(0)).removed, &[1])?);
+    let given = kept.class(ClassId(0));
+    assert!(rt; are(alloc, &given.added, &[2])?);
+    assert!(rt; are(alloc, &given.removed, &[1])?);
     Ok(())
 }
