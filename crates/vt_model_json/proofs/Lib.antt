@@ -3,7 +3,5 @@ pub mod LoadingLemmas
 pub mod NextLemmas
 pub mod DifferenceLemmas
 pub mod PlanLemmas
-pub mod JoinedLemmas
-pub mod NoFloats
-pub mod TextLemmas
+pub mod EntryLemmas
 pub mod Dumped

@@ -68,10 +68,10 @@ module _ (meta : Metamodel) (g : Model) (valid : IsValid meta g) (o : ObjId) (c 
           absurd (true≢false (sym has ∙ foreign))
 
   -- the others go in one after the other
-  owned_members : (members : Members) (r : ℕ) (infos : List RefInfo) → ((i : ℕ) → slice_get meta.references (r + i) ≡ slice_get infos i)
-      → members_by meta g (links_of g o) members (owned meta c r infos) ≡ link_members g (links_of g o) members r infos
-  owned_members members r [] at = refl
-  owned_members members r (info ∷ infos) at = by (λ ms. owned_members ms (r + 1) infos rest) (isa meta c info.class) refl
+  owned_members : (ms : Members) (r : ℕ) (infos : List RefInfo) → ((i : ℕ) → slice_get meta.references (r + i) ≡ slice_get infos i)
+      → members_by meta g (links_of g o) ms (owned meta c r infos) ≡ link_members g (links_of g o) ms r infos
+  owned_members ms r [] at = refl
+  owned_members ms r (info ∷ infos) at = by (λ ms. owned_members ms (r + 1) infos rest) (isa meta c info.class) refl
     where
       declared : slice_get meta.references r ≡ Some info
       declared = let here : r + 0 ≡ r = omega arith in subst (λ n. slice_get meta.references n ≡ Some info) here (at 0)
@@ -81,13 +81,13 @@ module _ (meta : Metamodel) (g : Model) (valid : IsValid meta g) (o : ObjId) (c 
 
       by : ((ms : Members) → members_by meta g (links_of g o) ms (owned meta c (r + 1) infos) ≡ link_members g (links_of g o) ms (r + 1) infos)
           → (b : Bool) → isa meta c info.class ≡ b
-          → members_by meta g (links_of g o) members (cond b (record { 0 = r } ∷ owned meta c (r + 1) infos) (owned meta c (r + 1) infos)) ≡ link_members g (links_of g o) members r (info ∷ infos)
+          → members_by meta g (links_of g o) ms (cond b (record { 0 = r } ∷ owned meta c (r + 1) infos) (owned meta c (r + 1) infos)) ≡ link_members g (links_of g o) ms r (info ∷ infos)
       by later true is =
-          ap (λ (found : Option RefInfo). members_by meta g (links_of g o) (with_targets (unwrap_or (option_map (λ x. x.name) found) []) (texts (target_names g r (links_of g o))) members) (owned meta c (r + 1) infos)) declared
-          ∙ later (with_targets info.name (texts (target_names g r (links_of g o))) members)
+          ap (λ (found : Option RefInfo). members_by meta g (links_of g o) (with_targets (unwrap_or (option_map (λ x. x.name) found) []) (texts (target_names g r (links_of g o))) ms) (owned meta c (r + 1) infos)) declared
+          ∙ later (with_targets info.name (texts (target_names g r (links_of g o))) ms)
       by later false is =
-          later members
-          ∙ sym (ap (λ names. link_members g (links_of g o) (with_targets info.name (texts names) members) (r + 1) infos) (no_targets r info declared is))
+          later ms
+          ∙ sym (ap (λ names. link_members g (links_of g o) (with_targets info.name (texts names) ms) (r + 1) infos) (no_targets r info declared is))
 
   -- ---- the class in the plan
 

@@ -8,8 +8,11 @@
 mod difference;
 mod document;
 mod loading;
+mod names;
 // The text of a model.
 mod dump;
+mod entries;
+mod naming;
 mod plan;
 
 // A document, the model that it makes, and what is new in it.
