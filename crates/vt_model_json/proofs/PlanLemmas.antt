@@ -18,7 +18,7 @@ use Rattle.vt_model.specs.declared.model.Object.{Object}
 use Rattle.vt_model.specs.declared.model.Link.{Link}
 use Rattle.vt_facts.proofs.MemberLemmas.{Contains-from_filter, Contains-find}
 use Rattle.vt_graph.specs.Asked.{live_at, class_at}
-use Rattle.vt_store.proofs.Linking.Lists.{filter-none}
+use Rattle.vt_facts.proofs.ChosenLemmas.{filter-none}
 use Rattle.vt_asked.proofs.LiveLemmas.{live_at_is}
 use Rattle.vt_model_json.specs.Dump.{name_of, links_of, target_names, texts, with_targets, link_members}
 use Rattle.vt_model_json.specs.Inside.Plan.{owned, owned_by, IsPlan, members_by}

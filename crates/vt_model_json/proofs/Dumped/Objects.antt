@@ -15,9 +15,8 @@ use Rattle.vt_facts.proofs.MemberLemmas.{Contains-nil, Contains-cons_cases, Cont
 use Rattle.vt_slots.proofs.PlaceLemmas.{below}
 use Rattle.vt_graph.specs.Asked.{live_at, gone_at, class_at, or_gone}
 use Rattle.vt_facts.proofs.RisingLemmas.{first_below, rest_rises}
-use Rattle.vt_facts.proofs.ChosenLemmas.{filter-all}
 use Rattle.vt_graph.proofs.SlotLemmas.{equal_numbers}
-use Rattle.vt_store.proofs.Linking.Lists.{filter-agree, filter-none}
+use Rattle.vt_facts.proofs.ChosenLemmas.{filter-all, filter-agree, filter-none}
 use Rattle.vt_model_json.specs.Dump.{object_data, objects_data}
 use Rattle.vt_model_json.specs.Inside.Shown.{shown_name}
 
