@@ -1,0 +1,20 @@
+//! Transactions: changes that a store makes as a whole or not at all, what they changed, and the way
+//! back.
+//!
+//! It stands on `vt_store`. Read `specs/Touched.antt`, `specs/Leading.antt`, then
+//! `specs/Applying.antt`.
+#![tactic(auto)]
+
+// Changes that are collected.
+mod transaction;
+// A transaction that is made, and why one isn't.
+mod applied;
+mod applying;
+mod fault;
+
+// Changes that are collected.
+pub use transaction::{PushFault, Transaction};
+// A transaction that is made, and why one isn't.
+pub use applied::Applied;
+pub use applying::try_apply;
+pub use fault::ApplyFault;
