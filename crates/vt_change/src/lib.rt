@@ -1,8 +1,7 @@
 //! Transactions: changes that a store makes as a whole or not at all, what they changed, and the way
 //! back.
 //!
-//! It stands on `vt_store`. Read `specs/Touched.antt`, `specs/Leading.antt`, then
-//! `specs/Applying.antt`.
+//! It stands on `vt_store`. Read `specs/Leading.antt`, then `specs/Applying.antt`.
 #![tactic(auto)]
 
 // Changes that are collected.
