@@ -1,0 +1,6 @@
+mod FurtherNet
+mod ChosenLemmas
+mod BornLemmas
+mod RowLemmas
+mod ItemLemmas
+mod TouchedLemmas

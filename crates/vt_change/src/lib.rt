@@ -10,6 +10,11 @@ mod transaction;
 mod applied;
 mod applying;
 mod fault;
+// What its changes did so far, and the way back.
+mod naming;
+mod returning;
+mod telling;
+mod working;
 
 // Changes that are collected.
 pub use transaction::{PushFault, Transaction};
