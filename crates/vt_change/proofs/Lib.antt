@@ -4,3 +4,6 @@ mod BornLemmas
 mod RowLemmas
 mod ItemLemmas
 mod TouchedLemmas
+mod LeadLemmas
+mod TellLemmas
+mod ToldLemmas
