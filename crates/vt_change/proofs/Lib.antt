@@ -7,3 +7,4 @@ mod TouchedLemmas
 mod LeadLemmas
 mod TellLemmas
 mod ToldLemmas
+mod WorkLemmas

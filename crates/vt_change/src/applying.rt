@@ -27,7 +27,7 @@ struct Difference {
 }
 
 // Makes the changes, up to the first that isn't made, and keeps their edits.
-fn difference(
+fn make_told(
     alloc: Global,
     store: &mut Store,
     edits: &mut List<Edit>,
@@ -66,7 +66,7 @@ pub fn try_apply(
     ensures { Applies changes.now store.old store.new result }
 {
     let mut edits = List::new(alloc);
-    match difference(alloc, store, &mut edits, changes) {
+    match make_told(alloc, store, &mut edits, changes) {
         Ok(Difference { delta, touched }) => Ok(Applied {
             delta,
             touched,

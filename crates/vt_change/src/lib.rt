@@ -15,6 +15,8 @@ mod naming;
 mod returning;
 mod telling;
 mod working;
+// What holds of every way back.
+mod laws;
 
 // Changes that are collected.
 pub use transaction::{PushFault, Transaction};
@@ -22,3 +24,8 @@ pub use transaction::{PushFault, Transaction};
 pub use applied::Applied;
 pub use applying::try_apply;
 pub use fault::ApplyFault;
+// What holds of every way back.
+pub use laws::leads_back_with_more_room;
+
+#[cfg(test)]
+mod tests;

@@ -25,8 +25,8 @@ pub(crate) fn take_back(store: &mut Store, edits: List<Edit>)
     requires fits { (before : Held) × LeadBack before (reverse edits) store.old }
     ensures { (before : Held) → LeadBack before (reverse edits) store.old → IsBack before store.new }
 {
-    let mut edits = edits;
-    while let Some(edit) = edits.pop() {
+    let mut left = edits;
+    while let Some(edit) = left.pop() {
         store.revert(edit);
     }
 }

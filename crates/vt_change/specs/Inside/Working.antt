@@ -1,10 +1,8 @@
 -- A transaction under way: what its changes did so far, and the way back.
-use Rattle.std.specs.Prelude.{◌≡◌, ◌≤◌, ◌⊎◌, ℕ, List, reverse, Contains, Result, Ok, Err, OnOk, OnErr}
+use Rattle.std.specs.Prelude.{◌≡◌, ◌≤◌, ◌⊎◌, ℕ, List, reverse, Contains}
 use Rattle.vt_model.specs.Model.{Model}
-use Rattle.vt_model.specs.Effect.{effect}
+use Rattle.vt_model.specs.Valid.{IsValid}
 use Rattle.vt_model.specs.declared.model.Object.{Object}
-use Rattle.vt_model.specs.declared.change.Change.{Change}
-use Rattle.vt_model.specs.declared.change.Refusal.{Refusal}
 use Rattle.vt_graph.specs.Held.{Held}
 use Rattle.vt_store.specs.Undoing.{HeldEdit}
 use Rattle.vt_store.specs.declared.fault.StoreFault.{StoreFault}
@@ -19,9 +17,10 @@ use Rattle.vt_change.specs.declared.telling.Told.{Told}
 abbrev pub AreKnown : Model → Model → Type 0
 AreKnown before after = (x : Object) → Contains after.live x → Contains before.live x ⊎ (before.next ≤ x.number.0)
 
--- what was told is what changed, and the edits lead back
+-- what was told is what changed since a valid model, and the edits lead back to it
 pub record IsUnderWay (before now : Held) (told : Told) (edits : List HeldEdit) : Type 0 where
   pub meta : now.meta ≡ before.meta
+  pub begun : IsValid before.meta before.model
   pub told : IsTold before.meta before.model now.model told
   pub known : AreKnown before.model now.model
   pub next : before.model.next ≤ now.model.next
