@@ -38,11 +38,20 @@ module _ (turn : Change → Change) (old new : List Delta) (m : ℕ) (is : chang
           apart : (m == n) ≡ false → n ≢ m
           apart other same = let back : (m == n) ≡ true = grind (arith, nat_tests) in cc
 
--- ---- one item of a list
+-- ---- the items of a list, one after the other
 
-module _ {T : Type 0} (place : T → ℕ) (row : T → List Value) (way : Way) (old new : List Delta) (x : T) (rest : List T)
+-- what the rows that are left make of the changes is what all rows make of those at the start
+abbrev pub Leaves : Way → (ℕ → List (List Value)) → (ℕ → List (List Value)) → List Delta → List Delta → Type 0
+Leaves way left rows start now = (length now ≡ length start)
+    × ((n : ℕ) → n < length start → fold (moved way) (change_at now n) (left n) ≡ fold (moved way) (change_at start n) (rows n))
+
+-- none is left
+pub Moves-left : (way : Way) (rows : ℕ → List (List Value)) (start now : List Delta) → Leaves way (λ n. []) rows start now → Moves way rows start now
+Moves-left way rows start now leaves = record { count = leaves.0; each = leaves.1 }
+
+module _ {T : Type 0} (place : T → ℕ) (row : T → List Value) (way : Way) (start old new : List Delta) (x : T) (rest : List T)
     (is : changes_of new ≡ turned_at (λ change. moved way change (row x)) (changes_of old) (place x)) where
-  pub tell-item : (n : ℕ) → n < length old
+  tell-item : (n : ℕ) → n < length old
       → fold (moved way) (change_at new n) (map row (filter (λ y. place y == n) rest)) ≡ fold (moved way) (change_at old n) (map row (filter (λ y. place y == n) (x ∷ rest)))
   tell-item n below =
       ap (λ change. fold (moved way) change (map row (filter (λ y. place y == n) rest))) (change_at-turned (λ change. moved way change (row x)) old new (place x) is n below)
@@ -52,6 +61,14 @@ module _ {T : Type 0} (place : T → ℕ) (row : T → List Value) (way : Way) (
           ≡ fold (moved way) (change_at old n) (map row (cond b (x ∷ filter (λ y. place y == n) rest) (filter (λ y. place y == n) rest)))
       by true = refl
       by false = refl
+
+  -- one item told
+  pub Leaves-item : (rows : ℕ → List (List Value)) → Leaves way (λ n. map row (filter (λ y. place y == n) (x ∷ rest))) rows start old
+      → Leaves way (λ n. map row (filter (λ y. place y == n) rest)) rows start new
+  Leaves-item rows leaves = (
+    length-turned (λ change. moved way change (row x)) old new (place x) is ∙ leaves.0,
+    λ n below. tell-item n (let e = leaves.0 in omega arith) ∙ leaves.1 n below,
+  )
 
 -- ---- an object, class by class
 
@@ -91,17 +108,60 @@ module _ (meta : Metamodel) (way : Way) (o : Object) (change : Change) where
           let still : nat_lt n (c + 1) ≡ nat_lt n c = grind (arith, nat_tests) in
           rw still refl
 
+  told_below-none : (n : ℕ) → told_below meta way o change 0 n ≡ change
+  told_below-none n = let none : nat_lt n 0 ≡ false = grind (arith, nat_tests) in rw none refl
+
+  told_below-all : (c n : ℕ) → n < c → told_below meta way o change c n ≡ fold (moved way) change (object_rows meta (o ∷ []) n)
+  told_below-all c n below = let all : nat_lt n c ≡ true = grind (arith, nat_tests) in rw all refl
+
+module _ (meta : Metamodel) (way : Way) (o : Object) (start : List Delta) where
+  -- so have they at each number
+  abbrev pub TellsBelow : List Delta → ℕ → Type 0
+  TellsBelow now c = (length now ≡ length start) × ((n : ℕ) → n < length start → change_at now n ≡ told_below meta way o (change_at start n) c n)
+
+  pub TellsBelow-none : TellsBelow start 0
+  TellsBelow-none = (refl, λ n below. sym (told_below-none meta way o (change_at start n) n))
+
+  -- a class that the object is of told
+  pub TellsBelow-of : (old new : List Delta) (c : ℕ) → changes_of new ≡ turned_at (λ change. moved way change (Obj o.number ∷ [])) (changes_of old) c
+      → isa meta o.class (record { 0 = c }) ≡ true → TellsBelow old c → TellsBelow new (c + 1)
+  TellsBelow-of old new c is of tells = (
+    length-turned (λ change. moved way change (Obj o.number ∷ [])) old new c is ∙ tells.0,
+    λ n below.
+        change_at-turned (λ change. moved way change (Obj o.number ∷ [])) old new c is n (let e = tells.0 in omega arith)
+        ∙ ap (λ change. cond (c == n) (moved way change (Obj o.number ∷ [])) change) (tells.1 n below)
+        ∙ told_below-of meta way o (change_at start n) c n of,
+  )
+
+  -- one that it isn't of has nothing to tell
+  pub TellsBelow-other : (now : List Delta) (c : ℕ) → isa meta o.class (record { 0 = c }) ≡ false → TellsBelow now c → TellsBelow now (c + 1)
+  TellsBelow-other now c none tells = (tells.0, λ n below. tells.1 n below ∙ told_below-other meta way o (change_at start n) c n none)
+
+  -- all classes told
+  pub Moves-below : (now : List Delta) (c : ℕ) → c ≡ length start → TellsBelow now c → Moves way (object_rows meta (o ∷ [])) start now
+  Moves-below now c all tells = record {
+    count = tells.0;
+    each = λ n below. tells.1 n below ∙ told_below-all meta way o (change_at start n) c n (let e = all in omega arith);
+  }
+
 -- ---- objects, one after the other
 
-pub tell-object : (meta : Metamodel) (way : Way) (old new : List Delta) (o : Object) (rest : List Object) → Moves way (object_rows meta (o ∷ [])) old new
-    → (n : ℕ) → n < length old → fold (moved way) (change_at new n) (object_rows meta rest n) ≡ fold (moved way) (change_at old n) (object_rows meta (o ∷ rest) n)
-tell-object meta way old new o rest moves n below =
-    ap (λ change. fold (moved way) change (object_rows meta rest n)) (moves.each n below) ∙ by (isa meta o.class (record { 0 = n }))
-  where
-    by : (b : Bool) → fold (moved way) (fold (moved way) (change_at old n) (map (λ (p : Object). Obj p.number ∷ []) (cond b (o ∷ []) []))) (object_rows meta rest n)
-        ≡ fold (moved way) (change_at old n) (map (λ (p : Object). Obj p.number ∷ []) (cond b (o ∷ filter (λ (p : Object). isa meta p.class (record { 0 = n })) rest) (filter (λ (p : Object). isa meta p.class (record { 0 = n })) rest)))
-    by true = refl
-    by false = refl
+module _ (meta : Metamodel) (way : Way) (start old new : List Delta) (o : Object) (rest : List Object) (moves : Moves way (object_rows meta (o ∷ [])) old new) where
+  tell-object : (n : ℕ) → n < length old → fold (moved way) (change_at new n) (object_rows meta rest n) ≡ fold (moved way) (change_at old n) (object_rows meta (o ∷ rest) n)
+  tell-object n below =
+      ap (λ change. fold (moved way) change (object_rows meta rest n)) (moves.each n below) ∙ by (isa meta o.class (record { 0 = n }))
+    where
+      by : (b : Bool) → fold (moved way) (fold (moved way) (change_at old n) (map (λ (p : Object). Obj p.number ∷ []) (cond b (o ∷ []) []))) (object_rows meta rest n)
+          ≡ fold (moved way) (change_at old n) (map (λ (p : Object). Obj p.number ∷ []) (cond b (o ∷ filter (λ (p : Object). isa meta p.class (record { 0 = n })) rest) (filter (λ (p : Object). isa meta p.class (record { 0 = n })) rest)))
+      by true = refl
+      by false = refl
+
+  -- one object told
+  pub Leaves-object : (rows : ℕ → List (List Value)) → Leaves way (object_rows meta (o ∷ rest)) rows start old → Leaves way (object_rows meta rest) rows start new
+  Leaves-object rows leaves = (
+    moves.count ∙ leaves.0,
+    λ n below. tell-object n (let e = leaves.0 in omega arith) ∙ leaves.1 n below,
+  )
 
 -- ---- rows that went, and rows that came
 
