@@ -13,7 +13,7 @@ use Rattle.vt_store.specs.Edits.{undone}
 use Rattle.vt_store.specs.Undoing.{HeldEdit, KeepsRoomOf, Fits}
 use Rattle.vt_store.specs.Changing.{Makes}
 use Rattle.vt_store.specs.Inside.Tested as tested
-use Rattle.vt_store.proofs.BackLemmas.{leads_back, fits_later, back_again, stays_still}
+use Rattle.vt_store.proofs.BackLemmas.{leads_back, fits_step, stays_step, stays_still}
 use Rattle.vt_change.specs.Leading.{IsBack, IsReverted, FitsLast, LeadBack}
 
 -- ---- the same facts in the words of the store
@@ -56,7 +56,7 @@ leads_before e s fits = record { meta = refl; fits = fits.fits; model = refl; ro
 -- taken back of that store, the edit is taken back of this one
 reverted_too : (e : HeldEdit) (s t left : Held) → FitsLast e s → IsBack s t → IsReverted e t left → IsReverted e s left
 reverted_too e s t left fits back gone =
-    let still = back_again e (before_edit e s) s t (leads_before e s fits) (stays s t back) left (is_undone e t left gone) in
+    let still = stays_step (Ok e) (before_edit e s) s t left (leads_before e s fits) (stays s t back) (is_undone e t left gone) in
     record {
       meta = still.meta;
       model = still.model;
@@ -67,7 +67,7 @@ pub LeadBack-more : (edits : List HeldEdit) (before s t : Held) → LeadBack bef
 LeadBack-more [] before s t lead back = IsBack-then before s t lead back
 LeadBack-more (e ∷ edits) before s t lead back = (
   record {
-    fits = fits_later e (before_edit e s) s t (leads_before e s lead.0) (stays s t back);
+    fits = fits_step (Ok e) (before_edit e s) s t (leads_before e s lead.0) (stays s t back);
     gone = subst (λ g. (o : ObjId) → IsSome (gone_at (undone e.edit g) o) → IsSome (gone_at g o)) (sym back.model) lead.0.gone;
   },
   λ left gone. lead.1 left (reverted_too e s t left lead.0 back gone),
@@ -81,7 +81,7 @@ module _ (c : Change) (old new : Held) (e : HeldEdit) (gives : GivesStorable c) 
 
   -- the edit of a change that is made is taken back
   pub back_made : (left : Held) → IsReverted e new left → IsBack old left
-  back_made left gone = is_back old left (back_again e old new new made (stays_still new) left (is_undone e new left gone))
+  back_made left gone = is_back old left (stays_step (Ok e) old new new left made (stays_still new) (is_undone e new left gone))
 
   pub LeadBack-made : (edits : List HeldEdit) (before : Held) → LeadBack before edits old → LeadBack before (e ∷ edits) new
   LeadBack-made edits before lead = (

@@ -58,7 +58,7 @@ module _ (xs others : List AttributeValue) where
     value = sym (ap second_of same) i;
   }
 
-  pub without-value_rows : (a : ℕ) → value_rows (without same_value others xs) a ≡ Deltas.without (value_rows others a) (value_rows xs a)
+  pub without-value_rows : (a : ℕ) → value_rows (without same_value others xs) a ≡ Changes.without (value_rows others a) (value_rows xs a)
   without-value_rows a = without-rows same_value Decides-same_value (λ (t : AttributeValue). t.attribute.0 == a) (λ (t : AttributeValue). Obj t.object ∷ t.value ∷ []) others xs
       (λ t u _ _ is also same. one_value a t u is also same)
 
@@ -69,12 +69,12 @@ module _ (xs others : List AttributeValue) where
     value = sym (ap third_of same) i;
   }
 
-  pub without-whole_rows : whole_rows (without same_value others xs) ≡ Deltas.without (whole_rows others) (whole_rows xs)
+  pub without-whole_rows : whole_rows (without same_value others xs) ≡ Changes.without (whole_rows others) (whole_rows xs)
   without-whole_rows =
       sym (whole (without same_value others xs))
       ∙ without-rows same_value Decides-same_value (λ (t : AttributeValue). true) (λ (t : AttributeValue). Obj t.object ∷ Int (pos t.attribute.0) ∷ t.value ∷ []) others xs
       (λ t u _ _ _ _ same. one_whole t u same)
-      ∙ ap₂ Deltas.without (whole others) (whole xs)
+      ∙ ap₂ Changes.without (whole others) (whole xs)
     where
       whole : (ts : List AttributeValue) → whole_rows (filter (λ t. true) ts) ≡ whole_rows ts
       whole ts = ap whole_rows (filter-all (λ t. true) ts (λ t there. refl))
@@ -90,7 +90,7 @@ module _ (xs others : List Link) where
     target = record { 0 = sym (ap (λ row. number_of (second_of row)) same) i };
   }
 
-  pub without-link_rows : (r : ℕ) → link_rows (without same_link others xs) r ≡ Deltas.without (link_rows others r) (link_rows xs r)
+  pub without-link_rows : (r : ℕ) → link_rows (without same_link others xs) r ≡ Changes.without (link_rows others r) (link_rows xs r)
   without-link_rows r = without-rows same_link Decides-same_link (λ (l : Link). l.reference.0 == r) (λ (l : Link). Obj l.source ∷ Obj l.target ∷ []) others xs
       (λ l m _ _ is also same. one_link r l m is also same)
 
@@ -101,7 +101,7 @@ abbrev pub AreOne : List Object → List Object → Type 0
 AreOne xs others = (x y : Object) → Contains xs x → Contains others y → x.number.0 ≡ y.number.0 → x ≡ y
 
 pub without-object_rows : (meta : Metamodel) (xs others : List Object) → AreOne xs others → (c : ℕ)
-    → object_rows meta (without same_object others xs) c ≡ Deltas.without (object_rows meta others c) (object_rows meta xs c)
+    → object_rows meta (without same_object others xs) c ≡ Changes.without (object_rows meta others c) (object_rows meta xs c)
 without-object_rows meta xs others one c =
     without-rows same_object Decides-same_object (λ (o : Object). isa meta o.class (record { 0 = c })) (λ (o : Object). Obj o.number ∷ []) others xs
     (λ x y there other _ _ same. one x y there other (sym (ap first_of same)))

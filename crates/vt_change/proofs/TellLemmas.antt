@@ -1,6 +1,6 @@
 -- What happens to the change at each number while rows come and go.
 use Rattle.std.proofs.Common.{◌≡◌, ◌<◌, ◌≢◌, ℕ, ◌+◌, Bool, true, false, cond, List, [], ◌∷◌, map, length, refl, sym, ap, ◌∙◌, arith}
-use Rattle.std.proofs.lemmas.Bool.{eqb-true, ne_from_eqb}
+use Rattle.std.proofs.lemmas.Bool.{eqb-true}
 use Rattle.std.proofs.lemmas.Bool.Decides.{nat_tests}
 use Rattle.std.proofs.lemmas.List.{length-map, length-set, get_or-set_same, get_or-set_other}
 use Rattle.std.specs.Prelude.{◌==◌, nat_lt, filter, fold, slice_set, slice_index_or}
@@ -25,9 +25,6 @@ module _ (turn : Change → Change) (old new : List Delta) (m : ℕ) (is : chang
   pub change_at-turned : (n : ℕ) → n < length old → change_at new n ≡ cond (m == n) (turn (change_at old n)) (change_at old n)
   change_at-turned n below = ap (λ cs. slice_index_or cs n no_change) is ∙ by (m == n) refl
     where
-      cs : List Change
-      cs = changes_of old
-
       by : (b : Bool) → (m == n) ≡ b → slice_index_or (turned_at turn (changes_of old) m) n no_change ≡ cond b (turn (change_at old n)) (change_at old n)
       by true same =
           let is : m ≡ n = eqb-true m n same in

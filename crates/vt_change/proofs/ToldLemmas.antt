@@ -1,7 +1,8 @@
 -- What was told stays the net change, edit by edit.
-use Rattle.std.proofs.Common.{◌≡◌, ◌<◌, ℕ, zero, suc, true, List, [], ◌∷◌, map, length, replicate, refl, sym, ap, ap₂, subst, ◌∙◌, arith}
-use Rattle.std.specs.Prelude.{pos, filter, All, Contains, Option, Some, slice_get, slice_index_or}
+use Rattle.std.proofs.Common.{◌≡◌, ◌<◌, ℕ, zero, suc, Bool, true, List, [], ◌∷◌, map, length, replicate, refl, sym, ap, ap₂, subst, ◌∙◌, arith}
+use Rattle.std.specs.Prelude.{pos, not, filter, All, Contains, Option, Some, slice_get, slice_index_or}
 use Rattle.std.specs.Ordering.{nat_cmp, int_cmp, ordering_then}
+use Rattle.std.specs.List.{list_any}
 use Rattle.std.specs.List.Sorted.{IsStrictlySortedBy}
 use Rattle.std.specs.declared.cmp.Ordering.{Ordering}
 use Rattle.std.specs.declared.cmp.Ordering.TheVariants.{Less, Equal, Greater}
@@ -28,7 +29,7 @@ use Rattle.vt_model.specs.Assigning.{value_order}
 use Rattle.vt_model.specs.declared.model.AttributeValue.{AttributeValue}
 use Rattle.vt_model.specs.declared.model.Link.{Link}
 use Rattle.vt_model.proofs.BaseLemmas.{IsStrictlySortedBy-chosen, Ascends-class_rows, Ascends-attribute_rows, Ascends-reference_rows}
-use Rattle.vt_store.specs.Edits.{edit_of}
+use Rattle.vt_store.specs.Edits.{same_value, same_link, without, edit_of}
 use Rattle.vt_change.specs.declared.telling.Told.{Told}
 use Rattle.vt_change.specs.Inside.Telling.{object_rows, value_rows, link_rows, whole_rows, turned, change_at, Turns, HasPlaces, Tells, AreNet, IsTold}
 use Rattle.vt_change.specs.Inside.Working.{AreKnown}
@@ -106,13 +107,17 @@ links_placed : (meta : Metamodel) (g : Model) (count : ℕ) → IsValid meta g �
 links_placed meta g count valid is = All-weaker (FitsReference meta g.live) (λ l. l.reference.0 < count)
     (λ l fits. subst (λ n. l.reference.0 < n) (sym is) (below_some meta.references l.reference.0 fits.info fits.declared)) g.links valid.links_fit
 
+-- what one list has without another
+fewer : {T : Type 0} (same : T → T → Bool) (P : T → Type 0) (others xs : List T) → All P xs → All P (without same others xs)
+fewer same P others xs all = All-filter (λ x. not (list_any (same x) others)) P xs all
+
 pub HasPlaces-edit : (meta : Metamodel) (g after : Model) (told : Told) → IsValid meta g → IsValid meta after → HasCounts (counts_of meta) told.delta → HasPlaces meta (edit_of g after) told
 HasPlaces-edit meta g after told valid still counts = record {
   classes = counts.classes;
-  values_added = All-filter _ _ after.values (values_placed meta after (length told.delta.attributes) still counts.attributes);
-  values_removed = All-filter _ _ g.values (values_placed meta g (length told.delta.attributes) valid counts.attributes);
-  links_added = All-filter _ _ after.links (links_placed meta after (length told.delta.references) still counts.references);
-  links_removed = All-filter _ _ g.links (links_placed meta g (length told.delta.references) valid counts.references);
+  values_added = fewer same_value (λ t. t.attribute.0 < length told.delta.attributes) g.values after.values (values_placed meta after (length told.delta.attributes) still counts.attributes);
+  values_removed = fewer same_value (λ t. t.attribute.0 < length told.delta.attributes) after.values g.values (values_placed meta g (length told.delta.attributes) valid counts.attributes);
+  links_added = fewer same_link (λ l. l.reference.0 < length told.delta.references) g.links after.links (links_placed meta after (length told.delta.references) still counts.references);
+  links_removed = fewer same_link (λ l. l.reference.0 < length told.delta.references) after.links g.links (links_placed meta g (length told.delta.references) valid counts.references);
 }
 
 -- ---- nothing was told

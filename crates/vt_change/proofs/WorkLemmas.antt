@@ -102,8 +102,8 @@ stops meta n g c cs why refused = ap (λ r. and_then (λ h. changes_from meta (n
 
 -- the place and the reason of a fault are those of the change
 pub fault_is : (n at : ℕ) (fault : StoreFault) (why : Refusal) → fault_at n fault ≡ apply.Refused at why → (fault ≡ store.Refused why) × (n ≡ at)
-fault_is n at (store.Refused other) why same = cc
-fault_is n at store.NoMemory why same = cc
+fault_is n at (store.Refused other) why same = (cc, cc)
+fault_is n at store.NoMemory why same = (cc, cc)
 
 -- ---- at the end
 

@@ -18,10 +18,10 @@ abbrev pub AreKnown : Model → Model → Type 0
 AreKnown before after = (x : Object) → Contains after.live x → Contains before.live x ⊎ (before.next ≤ x.number.0)
 
 -- what was told is what changed since a valid model, and the edits lead back to it
-pub record IsUnderWay (before now : Held) (told : Told) (edits : List HeldEdit) : Type 0 where
+pub record IsUnderWay (before now : Held) (telling : Told) (edits : List HeldEdit) : Type 0 where
   pub meta : now.meta ≡ before.meta
   pub begun : IsValid before.meta before.model
-  pub told : IsTold before.meta before.model now.model told
+  pub told : IsTold before.meta before.model now.model telling
   pub known : AreKnown before.model now.model
   pub next : before.model.next ≤ now.model.next
   pub back : LeadBack before (reverse edits) now
