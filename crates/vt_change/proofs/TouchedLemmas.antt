@@ -78,10 +78,13 @@ module _ (next : ℕ) (g : Model) where
           → (t : AttributeValue) × Contains values t × (t.object ≡ o) × (o.0 < next) × (is_some (class_at g o) ≡ true)
       by t stands false fails named = cc
       by t stands true passes named =
-          let is : t.object ≡ o = cc in
-          (t, stands, is,
-          subst (λ (o : ObjId). o.0 < next) is (below-told t.object.0 next (and_left (nat_lt t.object.0 next) (is_some (class_at g t.object)) passes)),
-          subst (λ o. is_some (class_at g o) ≡ true) is (and_right (nat_lt t.object.0 next) (is_some (class_at g t.object)) passes))
+          let is : t.object ≡ o = cc in (
+            t,
+            stands,
+            is,
+            subst (λ (o : ObjId). o.0 < next) is (below-told t.object.0 next (and_left (nat_lt t.object.0 next) (is_some (class_at g t.object)) passes)),
+            subst (λ o. is_some (class_at g o) ≡ true) is (and_right (nat_lt t.object.0 next) (is_some (class_at g t.object)) passes),
+          )
 
   named-there : (values : List AttributeValue) (t : AttributeValue) → Contains values t → t.object.0 < next → is_some (class_at g t.object) ≡ true → Contains (named values) t.object
   unfolding named
@@ -127,9 +130,10 @@ module _ (meta : Metamodel) (before after : Model) (valid : IsValid meta before)
           → (t.object ≡ o) × Contains (without same_value others xs) t
       whole others xs t there =
           let is = Contains-from_without same_value Decides-same_value (filter (λ (t : AttributeValue). t.object.0 == o.0) others) (filter (λ (t : AttributeValue). t.object.0 == o.0) xs) t there in
-          let own = Contains-from_filter (λ (t : AttributeValue). t.object.0 == o.0) xs t is.0 in
-          (ap (λ n. record { 0 = n }) (eqb-true t.object.0 o.0 own.1),
-          Contains-without same_value Decides-same_value others xs t own.0 (λ other. is.1 (Contains-filter (λ (t : AttributeValue). t.object.0 == o.0) others t other own.1)))
+          let own = Contains-from_filter (λ (t : AttributeValue). t.object.0 == o.0) xs t is.0 in (
+            ap (λ n. record { 0 = n }) (eqb-true t.object.0 o.0 own.1),
+            Contains-without same_value Decides-same_value others xs t own.0 (λ other. is.1 (Contains-filter (λ (t : AttributeValue). t.object.0 == o.0) others t other own.1)),
+          )
 
       by : (t : AttributeValue) × (Contains (without same_value (values_of before o) (values_of after o)) t ⊎ Contains (without same_value (values_of after o) (values_of before o)) t)
           → (t : AttributeValue) × (t.object ≡ o) × (Contains came t ⊎ Contains went t)

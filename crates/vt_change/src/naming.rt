@@ -19,12 +19,7 @@ fn object_named(store: &Store, next: u32, row: &Tuple) -> Option<ObjId>
 }
 
 // Adds the objects that rows name.
-fn add_named(
-    found: &mut Vec<ObjId>,
-    store: &Store,
-    next: u32,
-    rows: &Rows,
-) -> Result<(), NoMemory>
+fn add_named(found: &mut Vec<ObjId>, store: &Store, next: u32, rows: &Rows) -> Result<(), NoMemory>
     ensures { OnOk result (found.new.items ≡ found.old.items ++ filter_map (object_named next store.now.model) rows.now.items) }
 {
     let mut walk = rows.walk();

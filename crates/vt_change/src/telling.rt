@@ -190,10 +190,30 @@ pub(crate) fn tell(
 {
     let delta = &mut told.delta;
     tell_objects(&mut delta.classes, alloc, meta, edit)?;
-    tell_values(&mut delta.attributes, alloc, Way::Going, edit.values_removed())?;
-    tell_values(&mut delta.attributes, alloc, Way::Coming, edit.values_added())?;
-    tell_links(&mut delta.references, alloc, Way::Going, edit.links_removed())?;
-    tell_links(&mut delta.references, alloc, Way::Coming, edit.links_added())?;
+    tell_values(
+        &mut delta.attributes,
+        alloc,
+        Way::Going,
+        edit.values_removed(),
+    )?;
+    tell_values(
+        &mut delta.attributes,
+        alloc,
+        Way::Coming,
+        edit.values_added(),
+    )?;
+    tell_links(
+        &mut delta.references,
+        alloc,
+        Way::Going,
+        edit.links_removed(),
+    )?;
+    tell_links(
+        &mut delta.references,
+        alloc,
+        Way::Coming,
+        edit.links_added(),
+    )?;
     tell_whole(&mut told.values, alloc, Way::Going, edit.values_removed())?;
     tell_whole(&mut told.values, alloc, Way::Coming, edit.values_added())
 }

@@ -19,7 +19,8 @@ const LIBRARY: &str = r#"{"format":1,"enums":[],"classes":[
 {"name":"Atlas","supers":["Book"]}]}"#;
 
 // Shelves a and b, books x, y and z; x and y stand on a, and x has three pages.
-const SCENE: &str = "create a Shelf\ncreate b Shelf\ncreate x Book\ncreate y Book\ncreate z Book\nlink a books x\nlink a books y\nset x pages 3";
+const SCENE: &str =
+    "create a Shelf\ncreate b Shelf\ncreate x Book\ncreate y Book\ncreate z Book\nlink a books x\nlink a books y\nset x pages 3";
 
 // A whole number, or else a text.
 fn given(word: Text) -> Given {

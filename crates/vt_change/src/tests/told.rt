@@ -67,15 +67,21 @@ fn add_deltas(
     requires { HasCounts (counts_of meta.now) delta.now }
 {
     for c in 0..meta.class_count() {
-        let name = meta.class(ClassId(c)).map_or("?", |info| info.name.as_str());
+        let name = meta
+            .class(ClassId(c))
+            .map_or("?", |info| info.name.as_str());
         add_delta(text, alloc, store, name, delta.class(ClassId(c)))?;
     }
     for a in 0..meta.attr_count() {
-        let name = meta.attribute(AttrId(a)).map_or("?", |info| info.name.as_str());
+        let name = meta
+            .attribute(AttrId(a))
+            .map_or("?", |info| info.name.as_str());
         add_delta(text, alloc, store, name, delta.attr(AttrId(a)))?;
     }
     for r in 0..meta.ref_count() {
-        let name = meta.reference(RefId(r)).map_or("?", |info| info.name.as_str());
+        let name = meta
+            .reference(RefId(r))
+            .map_or("?", |info| info.name.as_str());
         add_delta(text, alloc, store, name, delta.reference(RefId(r)))?;
     }
     Ok(())
