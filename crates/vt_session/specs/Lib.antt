@@ -1,0 +1,4 @@
+-- words of public clauses; read them from the top
+pub mod Buffers
+pub mod Run
+pub mod Session
