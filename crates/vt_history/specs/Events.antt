@@ -1,18 +1,18 @@
 -- Events: what a step does to the matches of a pattern.
-use Rattle.std.specs.Prelude.{◌≡◌, ◌≢◌, ◌↔◌, true, false, List, Contains}
+use Rattle.std.specs.Prelude.{◌≡◌, ◌↔◌, true, false, List, Contains}
 use Rattle.vt_base.specs.Rows.{Ascends, has_row}
 use Rattle.vt_base.specs.declared.numbers.ObjId.{ObjId}
 use Rattle.vt_base.specs.declared.value.Value.{Value}
 use Rattle.vt_base.specs.declared.value.Value.TheVariants.{Obj}
 use Rattle.vt_model.specs.Model.{Model}
-use Rattle.vt_model.specs.Assigning.{values_of}
+use Rattle.vt_model.specs.Touched.{HasOtherValues}
 use Rattle.vt_history.specs.declared.report.PatternEvents.{PatternEvents}
 
 -- some object of the tuple has other values after the step than before
 pub record HasChanged (before after : Model) (row : List Value) : Type 0 where
   pub object : ObjId
   pub among : Contains row (Obj object)
-  pub other : values_of before object ≢ values_of after object
+  pub other : HasOtherValues before after object
 
 -- ---- a tuple, over a pattern's tables before and after the step
 

@@ -1,7 +1,5 @@
 -- Reports: what is told of a step.
-use Rattle.std.specs.Prelude.{◌≡◌, ◌≢◌, ◌↔◌, true, List, length, slice_get, Contains, Option, Some, None}
-use Rattle.std.specs.List.Sorted.{IsStrictlySortedBy}
-use Rattle.std.specs.Ordering.{nat_cmp}
+use Rattle.std.specs.Prelude.{◌≡◌, true, List, length, slice_get, Contains, Option, Some, None}
 use Rattle.vt_base.specs.Rows.{has_row}
 use Rattle.vt_base.specs.declared.numbers.ObjId.{ObjId}
 use Rattle.vt_base.specs.declared.numbers.RuleId.{RuleId}
@@ -9,32 +7,16 @@ use Rattle.vt_base.specs.declared.numbers.PatternId.{PatternId}
 use Rattle.vt_base.specs.declared.value.Value.{Value}
 use Rattle.vt_base.specs.declared.value.Value.TheVariants.{Obj}
 use Rattle.vt_model.specs.Model.{Model}
-use Rattle.vt_model.specs.Assigning.{values_of}
-use Rattle.vt_model.specs.declared.model.Object.{Object}
+use Rattle.vt_model.specs.Touched.{Lives, AreTouched}
 use Rattle.vt_query.specs.Holding.{table_of}
 use Rattle.vt_history.specs.History.{Cause, fire, Step, model_after, tables_after}
 use Rattle.vt_history.specs.Events.{AreEvents}
 use Rattle.vt_history.specs.declared.report.PatternEvents.{PatternEvents}
 use Rattle.vt_history.specs.declared.report.StepReport.{StepReport}
 
--- some live object has this number
-pub record Lives (g : Model) (o : ObjId) : Type 0 where
-  pub object : Object
-  pub there : Contains g.live object
-  pub number : object.number ≡ o
-
 -- the rows of a set hold no other objects than live ones
 abbrev pub HoldLive : Model → List (List Value) → Type 0
 HoldLive g rows = (row : List Value) → has_row rows row ≡ true → (o : ObjId) → Contains row (Obj o) → Lives g o
-
--- each object is above the one before it
-abbrev pub Rise : List ObjId → Type 0
-Rise objects = IsStrictlySortedBy (λ o p. nat_cmp o.0 p.0) objects
-
--- the objects that live before and after with other values, in rising order
-pub record AreTouched (before after : Model) (objects : List ObjId) : Type 0 where
-  pub rise : Rise objects
-  pub each : (o : ObjId) → Contains objects o ↔ (Lives before o × Lives after o × (values_of before o ≢ values_of after o))
 
 -- each pattern in its order, with what happened to its matches
 pub record AreOfPatterns (before after : Model) (old new : List (List (List Value))) (events : List PatternEvents) : Type 0 where

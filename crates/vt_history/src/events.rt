@@ -5,7 +5,8 @@ ghost use Rattle.vt_base.specs.Rows.{has_row};
 ghost use Rattle.vt_base.specs.Deltas.{change_of, net, without};
 ghost use Rattle.vt_model.specs.Model.{Model};
 ghost use Rattle.vt_history.specs.Events.{AreEvents};
-ghost use Rattle.vt_history.specs.Report.{AreTouched, HoldLive, Rise};
+ghost use Rattle.vt_model.specs.Touched.{AreTouched, Rise};
+ghost use Rattle.vt_history.specs.Report.{HoldLive};
 ghost use Rattle.vt_history.specs.Inside.Touching.{touches};
 
 use crate::PatternEvents;

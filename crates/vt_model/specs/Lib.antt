@@ -14,6 +14,7 @@ pub mod Fits
 pub mod Valid
 pub mod Kept
 pub mod Base
+pub mod Touched
 -- what the reader of documents is told
 pub mod Places
 pub mod Above
