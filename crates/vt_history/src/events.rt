@@ -1,34 +1,45 @@
 // What a step does to a pattern's matches.
-ghost use Rattle.std.specs.Prelude.{◌≡◌, ◌&&◌, filter, IfOk, List};
-ghost use Rattle.std.specs.List.{list_any};
-ghost use Rattle.vt_base.specs.Rows.{has_row};
-ghost use Rattle.vt_base.specs.Deltas.{change_of, net, without};
+ghost use Rattle.std.specs.Prelude.{◌≡◌, ◌&&◌, filter, IfOk};
+ghost use Rattle.vt_base.specs.Rows.{Ascends, has_row};
+ghost use Rattle.vt_base.specs.Deltas.{change_of, net};
 ghost use Rattle.vt_model.specs.Model.{Model};
-ghost use Rattle.vt_history.specs.Events.{AreEvents};
 ghost use Rattle.vt_model.specs.Touched.{AreTouched, Rise};
+ghost use Rattle.vt_history.specs.Events.{AreEvents};
 ghost use Rattle.vt_history.specs.Report.{HoldLive};
-ghost use Rattle.vt_history.specs.Inside.Touching.{touches};
+ghost use Rattle.vt_history.specs.Inside.Touching.{is_one, touches};
 
 use crate::PatternEvents;
 use std::alloc::Global;
-use vt_base::{Delta, NoMemory, ObjId, PatternId, Rows, Tuple, Value};
+use vt_base::{Delta, NoMemory, ObjId, PatternId, Plain, Rows, Tuple, Value};
 
-// Whether a tuple holds one of the objects, which rise.
-fn touches(touched: &[ObjId], row: &Tuple) -> bool
-    requires rise { Rise touched.now }
-    ensures { result ≡ touches touched.now row.now }
+fn is_one(objects: &[ObjId], value: &Value) -> bool
+    requires rise { Rise objects.now }
+    ensures { result ≡ is_one objects.now value.now }
 {
-    row.as_slice().iter().any(|value| match value {
-        Value::Obj(o) => touched.binary_search(o).is_ok(),
+    match value {
+        Value::Obj(o) => objects.binary_search(o).is_ok(),
         _ => false,
-    })
+    }
+}
+
+// Whether a tuple holds one of the objects.
+fn touches(objects: &[ObjId], row: &Tuple) -> bool
+    requires rise { Rise objects.now }
+    ensures { result ≡ touches objects.now row.now }
+{
+    row.as_slice().iter().any(|value| is_one(objects, value))
 }
 
 // The rows of both sets that hold one of the objects.
-fn updated(alloc: Global, before: &Rows, after: &Rows, touched: &[ObjId]) -> Result<Rows, NoMemory>
+fn updated(
+    alloc: Global,
+    before: &Rows,
+    after: &Rows,
+    touched: &[ObjId],
+) -> Result<Rows, NoMemory>
     requires rise { Rise touched.now }
     ensures { IfOk result (λ rows. rows.items
-        ≡ filter (λ row. has_row before.now.items row && touches touched.now row) after.now.items) }
+        ≡ filter (λ row. touches touched.now row && has_row before.now.items row) after.now.items) }
 {
     let mut found = Vec::new(alloc);
     let mut walk = after.walk();
@@ -38,6 +49,20 @@ fn updated(alloc: Global, before: &Rows, after: &Rows, touched: &[ObjId]) -> Res
         }
     }
     Rows::from_ascending(alloc, found)
+}
+
+// Every set of rows ascends.
+fn ascends(rows: &Rows)
+    ensures { Ascends rows.now.items }
+{
+    rows.walk();
+}
+
+// STUB
+fn net(alloc: Global, before: &Rows, after: &Rows) -> Result<Delta, NoMemory>
+    ensures { IfOk result (λ delta. change_of delta ≡ net before.now.items after.now.items) }
+{
+    Err(NoMemory)
 }
 
 impl PatternEvents {
@@ -56,8 +81,11 @@ impl PatternEvents {
             → HoldLive g before.now.items → HoldLive h after.now.items
             → AreEvents g h before.now.items after.now.items events) }
     {
-        let delta = Delta::net(alloc, before, after)?;
+        let delta = net(alloc, before, after)?;
         let updated = updated(alloc, before, after, touched)?;
+        ascends(&delta.added);
+        ascends(&delta.removed);
+        ascends(&updated);
         Ok(PatternEvents {
             pattern,
             added: delta.added,
