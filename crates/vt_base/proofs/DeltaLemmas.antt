@@ -1,13 +1,13 @@
 -- Net deltas: they fit the rows before, and applied to these they give the rows after.
 use Rattle.std.proofs.Common.{◌≡◌, ◌<◌, ℕ, zero, suc, length, Bool, true, false, not, ◌&&◌, ◌||◌, List, [], ◌∷◌, Option, Some, None, refl, sym, ap, subst, ◌∙◌, arith}
-use Rattle.std.specs.Prelude.{filter, fold, slice_get}
-use Rattle.std.specs.BTreeSet.{insert_key}
-use Rattle.std.specs.Ordering.{eq_by_cmp, match_ordering}
-use Rattle.std.specs.declared.cmp.Ordering.TheVariants.{Less, Equal, Greater}
+use Rattle.std.specs.Prelude.{◌++◌, cond, filter, fold, slice_get}
+use Rattle.std.specs.Ordering.{eq_by_cmp, is_eq, is_lt}
 use Rattle.std.proofs.lemmas.Cmp.{eq_by_cmp_equiv}
 use Rattle.std.proofs.lemmas.List.Kept.{IsStrictlySortedBy-filter}
 use Rattle.std.proofs.lemmas.Map.Made.{is_member-filter}
-use Rattle.vt_facts.proofs.OrderedLemmas.{IsStrictlySortedBy-insert_key}
+use Rattle.std.proofs.lemmas.List.Folds.{list_any-append}
+use Rattle.vt_sorted.specs.Ascending.{with_item, without_item, items_below, items_from}
+use Rattle.vt_sorted.proofs.AscendingLemmas.{sorted-with_item}
 use Rattle.vt_base.specs.Order.{tuple_cmp}
 use Rattle.vt_base.specs.Rows.{Ascends, has_row}
 use Rattle.vt_base.specs.Base.{BaseRows}
@@ -20,7 +20,7 @@ use Rattle.vt_base.proofs.OrderLemmas.{exact-tuple_cmp, eq_by_cmp-Decides}
 use Rattle.vt_base.proofs.RowsLemmas.{same_list}
 
 -- the rows that a list has are tested by what they are
-same_row : (a b : List Value) → eq_by_cmp tuple_cmp a b ≡ true → a ≡ b
+pub same_row : (a b : List Value) → eq_by_cmp tuple_cmp a b ≡ true → a ≡ b
 same_row a b = (eq_by_cmp-Decides IsTotalOrder-tuple_cmp exact-tuple_cmp a b).0
 
 -- a row stands in a list without others where it stands in the list and not among the others
@@ -40,20 +40,49 @@ or_same : (a c : Bool) → (a || (a || c)) ≡ (a || c)
 or_same true c = refl
 or_same false c = refl
 
-has-insert : (rows : List (List Value)) (q row : List Value) → has_row (insert_key tuple_cmp rows q) row ≡ (eq_by_cmp tuple_cmp row q || has_row rows row)
-has-insert [] q row = refl
-has-insert (x ∷ rows) q row =
-    elim (tuple_cmp q x) as (λ r. tuple_cmp q x ≡ r → has_row (match_ordering r (q ∷ x ∷ rows) (x ∷ rows) (x ∷ insert_key tuple_cmp rows q)) row ≡ (eq_by_cmp tuple_cmp row q || has_row (x ∷ rows) row)) [
-      | Less ↦ λ e. refl
-      | Equal ↦ λ e. rw (exact-tuple_cmp q x e) (sym (or_same (eq_by_cmp tuple_cmp row x) (has_row rows row)))
-      | Greater ↦ λ e. ap (λ b. eq_by_cmp tuple_cmp row x || b) (has-insert rows q row) ∙ or_twice (eq_by_cmp tuple_cmp row x) (eq_by_cmp tuple_cmp row q) (has_row rows row)
+-- what stands in a list, told by a test that goes over both parts of it
+in_parts : (a b c : Bool) → ((a && c) || (b || (a && not c))) ≡ (b || a)
+in_parts true true true = refl
+in_parts true true false = refl
+in_parts true false true = refl
+in_parts true false false = refl
+in_parts false true c = refl
+in_parts false false c = refl
+
+-- what stands already
+stood : (rows : List (List Value)) (q row : List Value) → has_row rows q ≡ true → has_row rows row ≡ (eq_by_cmp tuple_cmp row q || has_row rows row)
+stood rows q row there =
+    elim (eq_by_cmp tuple_cmp row q) as (λ b. eq_by_cmp tuple_cmp row q ≡ b → has_row rows row ≡ (b || has_row rows row)) [
+      | true ↦ λ same. rw (same_row row q same) there
+      | false ↦ λ apart. refl
     ] refl
 
-pub has-inserted : (added rows : List (List Value)) (row : List Value) → has_row (fold (insert_key tuple_cmp) rows added) row ≡ (has_row added row || has_row rows row)
+has-kept : (p : List Value → Bool) (rows : List (List Value)) (row : List Value) → has_row (filter p rows) row ≡ (has_row rows row && p row)
+has-kept p rows row =
+    is_member-filter (eq_by_cmp_equiv IsTotalOrder-tuple_cmp) p row
+    (λ r same. ap p (same_row row r same)) rows
+
+-- a row stands in a list with another where it is that one, or stands in the list
+pub has-with_item : (rows : List (List Value)) (q row : List Value) → has_row (with_item tuple_cmp rows q) row ≡ (eq_by_cmp tuple_cmp row q || has_row rows row)
+has-with_item rows q row =
+    elim (has_row rows q) as (λ b. has_row rows q ≡ b → has_row (cond b rows (items_below tuple_cmp rows q ++ q ∷ items_from tuple_cmp rows q)) row ≡ (eq_by_cmp tuple_cmp row q || has_row rows row)) [
+      | true ↦ λ there. stood rows q row there
+      | false ↦ λ absent.
+          list_any-append (eq_by_cmp tuple_cmp row) (items_below tuple_cmp rows q) (q ∷ items_from tuple_cmp rows q)
+          ∙ ap (λ b. b || (eq_by_cmp tuple_cmp row q || has_row (items_from tuple_cmp rows q) row)) (has-kept (λ x. is_lt (tuple_cmp x q)) rows row)
+          ∙ ap (λ b. (has_row rows row && is_lt (tuple_cmp row q)) || (eq_by_cmp tuple_cmp row q || b)) (has-kept (λ x. not (is_lt (tuple_cmp x q))) rows row)
+          ∙ in_parts (has_row rows row) (eq_by_cmp tuple_cmp row q) (is_lt (tuple_cmp row q))
+    ] refl
+
+-- a row stands in a list without another where it stands in the list and is not that one
+pub has-without_item : (rows : List (List Value)) (q row : List Value) → has_row (without_item tuple_cmp rows q) row ≡ (has_row rows row && not (eq_by_cmp tuple_cmp row q))
+has-without_item rows q row = has-kept (λ x. not (is_eq (tuple_cmp x q))) rows row
+
+pub has-inserted : (added rows : List (List Value)) (row : List Value) → has_row (fold (with_item tuple_cmp) rows added) row ≡ (has_row added row || has_row rows row)
 has-inserted [] rows row = refl
 has-inserted (q ∷ added) rows row =
-    has-inserted added (insert_key tuple_cmp rows q) row
-    ∙ ap (λ b. has_row added row || b) (has-insert rows q row)
+    has-inserted added (with_item tuple_cmp rows q) row
+    ∙ ap (λ b. has_row added row || b) (has-with_item rows q row)
     ∙ moved (has_row added row) (eq_by_cmp tuple_cmp row q) (has_row rows row)
   where
     moved : (a b c : Bool) → (a || (b || c)) ≡ ((b || a) || c)
@@ -62,9 +91,15 @@ has-inserted (q ∷ added) rows row =
     moved false true c = refl
     moved false false c = refl
 
-pub Ascends-inserted : (added rows : List (List Value)) → Ascends rows → Ascends (fold (insert_key tuple_cmp) rows added)
+pub Ascends-with_item : (rows : List (List Value)) (q : List Value) → Ascends rows → Ascends (with_item tuple_cmp rows q)
+Ascends-with_item rows q rise = sorted-with_item tuple_cmp IsTotalOrder-tuple_cmp rows q rise
+
+pub Ascends-without_item : (rows : List (List Value)) (q : List Value) → Ascends rows → Ascends (without_item tuple_cmp rows q)
+Ascends-without_item rows q rise = IsStrictlySortedBy-filter tuple_cmp (λ x. not (is_eq (tuple_cmp x q))) rows rise
+
+pub Ascends-inserted : (added rows : List (List Value)) → Ascends rows → Ascends (fold (with_item tuple_cmp) rows added)
 Ascends-inserted [] rows rise = rise
-Ascends-inserted (q ∷ added) rows rise = Ascends-inserted added (insert_key tuple_cmp rows q) (IsStrictlySortedBy-insert_key tuple_cmp IsTotalOrder-tuple_cmp rows q rise)
+Ascends-inserted (q ∷ added) rows rise = Ascends-inserted added (with_item tuple_cmp rows q) (Ascends-with_item rows q rise)
 
 -- ---- the net delta
 

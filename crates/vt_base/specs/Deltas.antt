@@ -1,8 +1,6 @@
--- Deltas: how a set of rows, and all rows of a base, came from what they were before.
-use Rattle.std.specs.Prelude.{◌≡◌, ◌<◌, ℕ, List, filter, fold, length, not, true, false, Option, Some, None, slice_get}
-use Rattle.std.specs.BTreeSet.{insert_key}
-use Rattle.vt_base.specs.Order.{tuple_cmp}
-use Rattle.vt_base.specs.Rows.{Ascends, has_row}
+-- Deltas: how all rows of a base came from what they were before.
+use Rattle.std.specs.Prelude.{◌≡◌, ◌<◌, ℕ, List, length, Option, Some, None, slice_get}
+use Rattle.vt_base.specs.Rows.{Ascends}
 use Rattle.vt_base.specs.Base.{BaseRows, Counts}
 use Rattle.vt_base.specs.declared.numbers.ClassId.{ClassId}
 use Rattle.vt_base.specs.declared.numbers.AttrId.{AttrId}
@@ -10,36 +8,7 @@ use Rattle.vt_base.specs.declared.numbers.RefId.{RefId}
 use Rattle.vt_base.specs.declared.value.Value.{Value}
 use Rattle.vt_base.specs.declared.delta.Delta.{Delta}
 use Rattle.vt_base.specs.declared.delta.BaseDelta.{BaseDelta}
-
--- ---- one set of rows
-
--- the rows that came, and those that went
-pub record Change : Type 0 where
-  pub added : List (List Value)
-  pub removed : List (List Value)
-
--- the rows of a list that another one lacks
-abbrev pub without : List (List Value) → List (List Value) → List (List Value)
-without others rows = filter (λ row. not (has_row others row)) rows
-
--- what is in the second and not in the first, and the reverse
-abbrev pub net : List (List Value) → List (List Value) → Change
-net before after = record { added = without before after; removed = without after before }
-
--- the rows without those that went, and with those that came, each at its place
-abbrev pub applied : Change → List (List Value) → List (List Value)
-applied change rows = fold (insert_key tuple_cmp) (without change.removed rows) change.added
-
--- what went was there, and what came was not
-pub record Fits (rows : List (List Value)) (change : Change) : Type 0 where
-  pub were_there : (row : List Value) → has_row change.removed row ≡ true → has_row rows row ≡ true
-  pub are_new : (row : List Value) → has_row change.added row ≡ true → has_row rows row ≡ false
-
--- a delta's rows
-abbrev pub change_of : Delta → Change
-change_of delta = record { added = delta.added.items; removed = delta.removed.items }
-
--- ---- all rows of a base
+pub use Rattle.vt_base.specs.Changes.{Change, without, net, applied, Fits, no_change, after_coming, after_going, change_of, changes_of, turned_at}
 
 -- the rows of each class, attribute and reference ascend
 pub record AllAscend (base : BaseRows) : Type 0 where

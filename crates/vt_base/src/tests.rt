@@ -16,6 +16,7 @@ use std::process::Abort;
 use std::sync::ledger::{Blank, Ledger};
 use std::test::Fail;
 
+mod deltas;
 mod printing;
 
 #[test]
