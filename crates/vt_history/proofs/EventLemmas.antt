@@ -10,7 +10,8 @@ use Rattle.vt_base.specs.Deltas.{without}
 use Rattle.vt_base.specs.Inside.OrderLaws.{IsTotalOrder-tuple_cmp}
 use Rattle.vt_base.specs.declared.numbers.ObjId.{ObjId}
 use Rattle.vt_base.specs.declared.value.Value.{Value}
-use Rattle.vt_base.proofs.DeltaLemmas.{same_row, has-without}
+use Rattle.vt_base.proofs.OrderLemmas.{exact-tuple_cmp, eq_by_cmp-Decides}
+use Rattle.vt_base.proofs.DeltaLemmas.{has-without}
 use Rattle.vt_model.specs.Model.{Model}
 use Rattle.vt_model.specs.Touched.{AreTouched}
 use Rattle.vt_history.specs.Events.{IsCreated, IsUpdated, AreThose, HasChanged}
@@ -21,7 +22,7 @@ use Rattle.vt_history.proofs.TouchingLemmas.{among-touches, touches-among}
 has-filter : (p : List Value → Bool) (rows : List (List Value)) (row : List Value) → has_row (filter p rows) row ≡ (has_row rows row && p row)
 has-filter p rows row =
     is_member-filter (eq_by_cmp_equiv IsTotalOrder-tuple_cmp) p row
-    (λ r same. ap p (same_row row r same)) rows
+    (λ r same. ap p ((eq_by_cmp-Decides IsTotalOrder-tuple_cmp exact-tuple_cmp row r).0 same)) rows
 
 both : (a b : Bool) → a ≡ true → b ≡ true → (a && b) ≡ true
 both a b e f = cc (ap (λ c. c && b) e)

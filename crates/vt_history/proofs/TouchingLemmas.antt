@@ -1,5 +1,5 @@
 -- Tuples that hold one of some objects.
-use Rattle.std.proofs.Common.{◌≡◌, ℕ, length, List, [], ◌∷◌, Bool, true, false, Result, Ok, Err, refl, sym, ap, ◌∙◌}
+use Rattle.std.proofs.Common.{◌≡◌, ℕ, length, List, Bool, true, false, Result, Ok, Err, refl, sym, ap, subst}
 use Rattle.std.specs.Prelude.{Contains, is_ok}
 use Rattle.std.specs.Cmp.{IsTotalOrder, Equal-is}
 use Rattle.std.specs.declared.cmp.Ordering.{Ordering}
@@ -49,7 +49,7 @@ Contains-has objects o h =
     let found = some_in (eq_by_cmp by_number o) objects h in
     let same : o.0 ≡ found.0.0 = exact_unsigned o.0 found.0.0 ((Equal-is (nat_cmp o.0 found.0.0)).0 found.2) in
     let is : found.0 ≡ o = λ i. record { 0 = sym same i } in
-    (found.1.0, found.1.1, found.1.2 ∙ is)
+    subst (Contains objects) is found.1
 
 has-Contains : (objects : List ObjId) (o : ObjId) → Contains objects o → has by_number objects o ≡ true
 has-Contains objects o there =

@@ -1,7 +1,6 @@
 // What a step does to a pattern's matches.
 ghost use Rattle.std.specs.Prelude.{◌≡◌, ◌&&◌, filter, IfOk};
 ghost use Rattle.vt_base.specs.Rows.{Ascends, has_row};
-ghost use Rattle.vt_base.specs.Deltas.{change_of, net};
 ghost use Rattle.vt_model.specs.Model.{Model};
 ghost use Rattle.vt_model.specs.Touched.{AreTouched, Rise};
 ghost use Rattle.vt_history.specs.Events.{AreEvents};
@@ -31,12 +30,7 @@ fn touches(objects: &[ObjId], row: &Tuple) -> bool
 }
 
 // The rows of both sets that hold one of the objects.
-fn updated(
-    alloc: Global,
-    before: &Rows,
-    after: &Rows,
-    touched: &[ObjId],
-) -> Result<Rows, NoMemory>
+fn updated(alloc: Global, before: &Rows, after: &Rows, touched: &[ObjId]) -> Result<Rows, NoMemory>
     requires rise { Rise touched.now }
     ensures { IfOk result (λ rows. rows.items
         ≡ filter (λ row. touches touched.now row && has_row before.now.items row) after.now.items) }
@@ -58,13 +52,6 @@ fn ascends(rows: &Rows)
     rows.walk();
 }
 
-// STUB
-fn net(alloc: Global, before: &Rows, after: &Rows) -> Result<Delta, NoMemory>
-    ensures { IfOk result (λ delta. change_of delta ≡ net before.now.items after.now.items) }
-{
-    Err(NoMemory)
-}
-
 impl PatternEvents {
     /// What happened to a pattern whose matches were the first rows and are the second, in a step
     /// that gave these objects other values.
@@ -81,7 +68,7 @@ impl PatternEvents {
             → HoldLive g before.now.items → HoldLive h after.now.items
             → AreEvents g h before.now.items after.now.items events) }
     {
-        let delta = net(alloc, before, after)?;
+        let delta = Delta::net(alloc, before, after)?;
         let updated = updated(alloc, before, after, touched)?;
         ascends(&delta.added);
         ascends(&delta.removed);

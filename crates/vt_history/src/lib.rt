@@ -10,3 +10,6 @@ mod events;
 
 // What is told of a step.
 pub use report::{PatternEvents, StepReport};
+
+#[cfg(test)]
+mod tests;
