@@ -2,3 +2,5 @@
 pub mod Buffers
 pub mod Run
 pub mod Session
+-- what the functions inside the crate promise each other
+pub mod Inside

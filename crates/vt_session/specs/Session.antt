@@ -8,7 +8,8 @@ use Rattle.vt_query.specs.declared.program.Program.{Program}
 use Rattle.vt_history.specs.History.{commit, Step, IsHistory, model_after, tables_after}
 use Rattle.vt_history.specs.Report.{Reports}
 use Rattle.vt_history.specs.declared.report.StepReport.{StepReport}
-use Rattle.vt_session.specs.Buffers.{Buffer, Denial, already_open, too_many_open, not_open, too_many_changes, refused}
+use Rattle.vt_session.specs.declared.buffers.Buffer.{Buffer}
+use Rattle.vt_session.specs.Buffers.{Denial, already_open, too_many_open, not_open, too_many_changes, refused}
 use Rattle.vt_session.specs.Run.{State, IsStep, committed, after_step}
 use Rattle.vt_session.specs.declared.fault.SessionFault.{SessionFault}
 use Rattle.vt_session.specs.declared.fault.SessionFault.TheVariants as fault
@@ -20,7 +21,7 @@ pub record Kept : Type 0 where
   pub tables : List (List (List Value))
   -- the number of the last step
   pub step : ℕ
-  pub open : List Buffer
+  pub buffers : List Buffer
 
 -- the session has come to where the run is
 pub record StandsFor (kept : Kept) (state : State) : Type 0 where
@@ -28,7 +29,7 @@ pub record StandsFor (kept : Kept) (state : State) : Type 0 where
   pub model : kept.model ≡ model_after state.steps
   pub tables : kept.tables ≡ tables_after state.steps
   pub step : kept.step + 1 ≡ length state.steps
-  pub open : kept.open ≡ state.open
+  pub buffers : kept.buffers ≡ state.buffers
 
 -- no call changes the metamodel or the program
 pub record IsOfOne (old new : Kept) : Type 0 where
@@ -52,10 +53,10 @@ IsDenied fault.NoMemory due = Unit {0}
 IsDenied fault due = (denial : Denial) × (due ≡ Err denial) × IsFaultOf fault denial
 
 -- a call that changes buffers alone has done what is due in a state
-pub record Buffers (due : Result (List Buffer) Denial) (state : State) (new : Kept) : Type 0 where
-  pub open : List Buffer
-  pub is : due ≡ Ok open
-  pub stands : StandsFor new (record state { open = open })
+pub record HasBuffers (due : Result (List Buffer) Denial) (state : State) (new : Kept) : Type 0 where
+  pub buffers : List Buffer
+  pub is : due ≡ Ok buffers
+  pub stands : StandsFor new (record state { buffers = buffers })
 
 -- a client's buffer has become a step, which is reported
 pub record Commits (client : List ℕ) (state : State) (report : StepReport) (old new : Kept) : Type 0 where

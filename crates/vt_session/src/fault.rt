@@ -1,6 +1,7 @@
 // Why a call of a session is refused.
 ghost use Rattle.std.specs.Prelude.{◌≡◌};
 ghost use Rattle.vt_session.specs.declared.fault.SessionFault.TheVariants as fault;
+ghost use Rattle.vt_session.specs.declared.fault.StartFault.TheVariants as start;
 
 use thiserror::Error;
 use vt_base::NoMemory;
@@ -43,5 +44,13 @@ impl From<NoMemory> for SessionFault {
 
     fn from(_: NoMemory) -> SessionFault {
         SessionFault::NoMemory
+    }
+}
+
+impl From<NoMemory> for StartFault {
+    ghost from_gives = { λ _ e. e ≡ start.NoMemory };
+
+    fn from(_: NoMemory) -> StartFault {
+        StartFault::NoMemory
     }
 }

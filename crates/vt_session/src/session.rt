@@ -1,10 +1,24 @@
 // A session.
-use crate::buffers::Buffer;
+ghost use Rattle.std.specs.Prelude.{◌≡◌, ◌≢◌, ◌×◌, ◌⊎◌, ◌<◌, ◌≤◌, ℕ, IfErr, IfOk, OnErr, OnOk, Err, length, option_map};
+ghost use Rattle.std.specs.Option.{option_copied};
+ghost use Rattle.vt_base.specs.Deltas.{IsNet};
+ghost use Rattle.vt_model.specs.Base.{base_of, counts_of};
+ghost use Rattle.vt_model.specs.Model.{empty_model};
+ghost use Rattle.vt_model.specs.declared.change.Refusal.{Refusal};
+ghost use Rattle.vt_query.specs.Narrow.{IsNarrow};
+ghost use Rattle.vt_session.specs.Buffers.{aborted, begun, changed, not_open};
+ghost use Rattle.vt_session.specs.Run.{IsStart, State, committed, without};
+ghost use Rattle.vt_session.specs.Session.{Commits, HasBuffers, IsDenied, IsOfOne, StandsFor, table_named};
+ghost use Rattle.vt_session.specs.declared.fault.SessionFault.TheVariants as fault;
+
+use crate::buffers::{Buffer, add_change, begin, end, place_of};
+use crate::committing::make;
 use crate::{SessionFault, StartFault};
 use std::alloc::Global;
 use std::marker::Model;
 use std::sync::ledger::Ledger;
-use vt_base::{BaseDelta, List, NoMemory, Rows, Steps, Text};
+use vt_base::{BaseDelta, List, Rows, Steps, Text};
+use vt_change::ApplyFault;
 use vt_direct::evaluate_directly;
 use vt_history::StepReport;
 use vt_model::Change;
@@ -14,17 +28,18 @@ use vt_store::Store;
 /// A model, the match lists of a program over it, and the transactions that clients have open.
 #[derive(Drop)]
 pub struct Session {
-    pub(crate) store: Store,
-    pub(crate) program: Program,
-    pub(crate) tables: List<Rows>,
+    store: Store,
+    program: Program,
+    tables: List<Rows>,
     // The number of the last step.
-    pub(crate) step: u64,
-    pub(crate) open: List<Buffer>,
+    step: u64,
+    buffers: Vec<Buffer>,
 }
 
 impl Model for Session {
-    ghost use Rattle.std.specs.Prelude.{map, length, ◌≤◌};
+    ghost use Rattle.std.specs.Prelude.{map};
     ghost use Rattle.vt_session.specs.Session.{Kept};
+    ghost use Rattle.vt_session.specs.Inside.Order.{IsInOrder};
 
     ghost Value = { Kept };
 
@@ -34,16 +49,17 @@ impl Model for Session {
       model = s.store.model;
       tables = map (λ rows. rows.items) s.tables;
       step = s.step;
-      open = s.open;
+      buffers = s.buffers.items;
     } };
 
-    // sound metamodel, valid model, a narrow program, the tables that stand, distinct clients
-    ghost invariant = { TODO };
+    ghost invariant = { λ s. IsInOrder s.store s.program (map (λ rows. rows.items) s.tables) s.buffers.items };
 }
 
+// ---- the start
+
 impl Session {
-    /// A session over a loaded model. The load is step 0. `loaded` is what came in with it, from
-    /// nothing.
+    /// A session over a loaded model. The load is step 0. `loaded` is what came in with it: the
+    /// difference of its rows from those of the empty model.
     pub fn start<L: Ledger>(
         alloc: Global,
         store: Store,
@@ -52,46 +68,146 @@ impl Session {
         steps: &mut Steps<L>,
     ) -> Result<Session, StartFault>
         requires narrow { IsNarrow (counts_of store.meta) program }
-        requires loaded { IsFromEmpty .. }
+        requires numbered { length program.patterns ≤ 65536 }
+        requires loaded { IsNet (base_of store.meta empty_model) (base_of store.meta store.model) loaded }
         ensures of { IfOk result (λ s. (s.meta ≡ store.meta) × (s.program ≡ program)) }
-        ensures starts { IfOk result (λ s. (state : State) × IsStart store.meta program store.model state × StandsFor s state) }
+        ensures starts { IfOk result (λ s. (state : State)
+            × IsStart store.meta program store.model state × StandsFor s state) }
+    {
+        let tables = evaluate_directly(alloc, &program, &store, steps)?;
+        Ok(Session {
+            store,
+            program,
+            tables,
+            step: 0,
+            buffers: Vec::new(alloc),
+        })
+    }
+}
 
+// ---- transactions
+
+impl Session {
     /// Opens a client's transaction.
     pub fn begin(&mut self, alloc: Global, client: &Text) -> Result<(), SessionFault>
         ensures of { IsOfOne self.old self.new }
-        ensures done { (state : State) → StandsFor self.old state → OnOk result (Buffers (begun client.now state.open) state self.new) }
-        ensures refused { (state : State) → StandsFor self.old state → IfErr result (λ fault. IsDenied fault (begun client.now state.open)) }
+        ensures done { (state : State) → StandsFor self.old state
+            → OnOk result (HasBuffers (begun client.now state.buffers) state self.new) }
+        ensures refused { (state : State) → StandsFor self.old state
+            → IfErr result (λ why. IsDenied why (begun client.now state.buffers)) }
         ensures unchanged { OnErr result (self.new ≡ self.old) }
+    {
+        begin(&mut self.buffers, alloc, client)
+    }
 
     /// Adds a change to a client's transaction.
-    pub fn change(&mut self, alloc: Global, client: &Text, change: Change) -> Result<(), SessionFault>
-        // as begin, with `changed client.now change state.open`
+    pub fn change(&mut self, client: &Text, change: Change) -> Result<(), SessionFault>
+        ensures of { IsOfOne self.old self.new }
+        ensures done { (state : State) → StandsFor self.old state
+            → OnOk result (HasBuffers (changed client.now change state.buffers) state self.new) }
+        ensures refused { (state : State) → StandsFor self.old state
+            → IfErr result (λ why. IsDenied why (changed client.now change state.buffers)) }
+        ensures unchanged { OnErr result (self.new ≡ self.old) }
+    {
+        add_change(&mut self.buffers, client, change)
+    }
 
     /// Makes a client's transaction: one step of the session. It is made whole, or is refused and
     /// changes nothing; either way it ends.
-    pub fn commit<L: Ledger>(&mut self, alloc: Global, client: &Text, steps: &mut Steps<L>) -> Result<StepReport, SessionFault>
+    pub fn commit<L: Ledger>(
+        &mut self,
+        alloc: Global,
+        client: &Text,
+        steps: &mut Steps<L>,
+    ) -> Result<StepReport, SessionFault>
         requires countable { self.old.step < 9223372036854775807 }
         ensures of { IsOfOne self.old self.new }
-        ensures done { (state : State) → StandsFor self.old state → IfOk result (λ report. Commits client.now state report self.old self.new) }
-        ensures refused { (state : State) → StandsFor self.old state → IfErr result (λ fault. IsDenied fault (committed self.old.meta client.now state)) }
+        ensures done { (state : State) → StandsFor self.old state
+            → IfOk result (λ report. Commits client.now state report self.old self.new) }
+        ensures refused { (state : State) → StandsFor self.old state
+            → IfErr result (λ why. IsDenied why (committed self.old.meta client.now state)) }
+
         // A refused transaction ends, and changes nothing.
-        ensures ended { (state : State) → StandsFor self.old state → (at : ℕ) (why : Refusal) → result ≡ Err (Refused at why) → StandsFor self.new (without client.now state) }
+        ensures ended { (state : State) → StandsFor self.old state → (at : ℕ) (why : Refusal)
+            → result ≡ Err (fault.Refused at why) → StandsFor self.new (without client.now state) }
         ensures unchanged { (result ≡ Err fault.NotOpen) ⊎ (result ≡ Err fault.NoMemory) → self.new ≡ self.old }
+    {
+        let Some(at) = place_of(&self.buffers, client) else {
+            return Err(SessionFault::NotOpen);
+        };
+        let made = make(
+            alloc,
+            &mut self.store,
+            &self.program,
+            self.tables.as_slice(),
+            self.buffers[at].changes.changes(),
+            self.step + 1,
+            steps,
+        );
+        match made {
+            Ok(next) => {
+                // Nothing below may fail.
+                end(&mut self.buffers, client);
+                self.tables = next.tables;
+                self.step += 1;
+                Ok(next.report)
+            }
+            Err(ApplyFault::Refused { at, why }) => {
+                end(&mut self.buffers, client);
+                Err(SessionFault::Refused { at, why })
+            }
+            Err(ApplyFault::NoMemory) => Err(SessionFault::NoMemory),
+        }
+    }
 
     /// Drops a client's transaction. It takes no memory.
     pub fn abort(&mut self, client: &Text) -> Result<(), SessionFault>
-        // as begin, with `aborted client.now state.open`; never NoMemory: result ≡ Err NoMemory → ⊥
+        ensures of { IsOfOne self.old self.new }
+        ensures done { (state : State) → StandsFor self.old state
+            → OnOk result (HasBuffers (aborted client.now state.buffers) state self.new) }
+        ensures refused { (state : State) → StandsFor self.old state
+            → IfErr result (λ why. (why ≡ fault.NotOpen) × (aborted client.now state.buffers ≡ Err not_open)) }
+        ensures unchanged { OnErr result (self.new ≡ self.old) }
+    {
+        if end(&mut self.buffers, client) {
+            Ok(())
+        } else {
+            Err(SessionFault::NotOpen)
+        }
+    }
+}
 
+// ---- what is read
+
+impl Session {
     /// The matches of the pattern of this name. None of a name that no pattern has, or a private one.
     pub fn matches(&self, pattern: &Text) -> Option<&Rows>
         ensures { option_map (λ rows. rows.items) (option_copied result) ≡ table_named self.now pattern.now }
+    {
+        let place = self
+            .program
+            .patterns
+            .as_slice()
+            .iter()
+            .position(|p| p.shown && p.name == *pattern);
+        match place {
+            Some(at) => self.tables.get(at),
+            None => None,
+        }
+    }
 
     /// The model.
     pub fn store(&self) -> &Store
         ensures meta { result.now.meta ≡ self.now.meta }
         ensures model { result.now.model ≡ self.now.model }
+    {
+        &self.store
+    }
 
     /// The number of the last step.
     pub fn step(&self) -> u64
         ensures { result ≡ self.now.step }
+    {
+        self.step
+    }
 }
