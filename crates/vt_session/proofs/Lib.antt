@@ -1,0 +1,4 @@
+mod BufferLemmas
+mod StateLemmas
+mod LiveLemmas
+mod NextLemmas
