@@ -136,8 +136,8 @@ HaveOneEach-filter q (b ∷ buffers) once =
     let rest = and_right (not (list_any (λ n. is_name n b.client) (map (λ c. c.client) buffers))) (is_distinct (map (λ c. c.client) buffers)) once in
     elim (q b) as (λ (kept : Bool). is_distinct (map (λ (c : Buffer). c.client) (cond kept (b ∷ filter q buffers) (filter q buffers))) ≡ true) [
       | true ↦ both (not (list_any (λ n. is_name n b.client) (map (λ c. c.client) (filter q buffers)))) (is_distinct (map (λ c. c.client) (filter q buffers)))
-      (ap not (any-filter_none (λ n. is_name n b.client) q buffers (not_true (list_any (λ n. is_name n b.client) (map (λ c. c.client) buffers)) first)))
-      (HaveOneEach-filter q buffers rest)
+          (ap not (any-filter_none (λ n. is_name n b.client) q buffers (not_true (list_any (λ n. is_name n b.client) (map (λ c. c.client) buffers)) first)))
+          (HaveOneEach-filter q buffers rest)
       | false ↦ HaveOneEach-filter q buffers rest
     ]
 
@@ -160,9 +160,9 @@ distinct-push (n ∷ names) name once none =
     let rest = and_right (not (list_any (λ m. is_name m n) names)) (is_distinct names) once in
     let parts = or_none (is_name n name) (list_any (λ m. is_name m name) names) none in
     let absent : list_any (λ m. is_name m n) (names ++ name ∷ []) ≡ false =
-        list_any-append (λ m. is_name m n) names (name ∷ [])
-        ∙ ap (λ b. b || (is_name name n || false)) (not_true (list_any (λ m. is_name m n) names) first)
-        ∙ ap (λ b. b || false) (turned n name parts.0) in
+    list_any-append (λ m. is_name m n) names (name ∷ [])
+    ∙ ap (λ b. b || (is_name name n || false)) (not_true (list_any (λ m. is_name m n) names) first)
+    ∙ ap (λ b. b || false) (turned n name parts.0) in
     both (not (list_any (λ m. is_name m n) (names ++ name ∷ []))) (is_distinct (names ++ name ∷ [])) (ap not absent) (distinct-push names name rest parts.1)
 
 -- one that none has is added

@@ -28,5 +28,5 @@ pub each-push : (old new : List (List (List Value))) (touched : List ObjId) (eve
 each-push old new touched events last n count each of p e at = elim (at_push events last e p.0 at) [
   | inl before ↦ each p e before
   | inr is ↦ let place : record { 0 = n } ≡ p = λ i. record { 0 = sym (is.0 ∙ count) i } in
-             subst (λ q. IsOfPattern q old new touched e) place (subst (IsOfPattern (record { 0 = n }) old new touched) is.1 of)
+      subst (λ q. IsOfPattern q old new touched e) place (subst (IsOfPattern (record { 0 = n }) old new touched) is.1 of)
 ]
