@@ -1,16 +1,16 @@
 // The transactions that clients have open.
-ghost use Rattle.std.specs.Prelude.{◌≡◌, ◌×◌, IfErr, OnErr, OnOk, Err, Ok, is_some, position};
-ghost use Rattle.std.specs.Option.{option_copied};
+ghost use Rattle.std.specs.Prelude.{◌≡◌, ◌++◌, [], ◌∷◌, IfErr, OnErr, OnOk, Ok, is_some, position};
 ghost use Rattle.vt_facts.specs.Names.{is_name};
-ghost use Rattle.vt_session.specs.Buffers.{aborted, begun, buffer_of, changed, not_open, without_buffer};
+ghost use Rattle.vt_session.specs.Buffers.{begun, buffer_of, changed, without_buffer};
 ghost use Rattle.vt_session.specs.Session.{IsDenied};
 ghost use Rattle.vt_session.specs.Inside.Order.{HaveOneEach};
+ghost use Rattle.vt_session.specs.declared.fault.SessionFault.TheVariants as fault;
 
 use crate::SessionFault;
 use std::alloc::Global;
 use vt_base::{NoMemory, Text};
 use vt_change::{PushFault, Transaction};
-use vt_model::Change;
+use vt_model::{Change, Refusal};
 
 /// So many clients may have a transaction open.
 const MOST: usize = 64;
@@ -99,4 +99,20 @@ pub(crate) fn end(buffers: &mut Vec<Buffer>, client: &Text) -> bool
         }
         None => false,
     }
+}
+
+// Ends the transaction of a client, a change of which is refused.
+pub(crate) fn refused(
+    buffers: &mut Vec<Buffer>,
+    client: &Text,
+    at: u32,
+    why: Refusal,
+) -> SessionFault
+    requires clients { HaveOneEach buffers.old.items }
+    ensures fault { result ≡ fault.Refused at why }
+    ensures ended { buffers.new.items ≡ without_buffer client.now buffers.old.items }
+    ensures clients { HaveOneEach buffers.new.items }
+{
+    end(buffers, client);
+    SessionFault::Refused { at, why }
 }

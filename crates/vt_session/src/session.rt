@@ -1,5 +1,5 @@
 // A session.
-ghost use Rattle.std.specs.Prelude.{◌≡◌, ◌≢◌, ◌×◌, ◌⊎◌, ◌<◌, ◌≤◌, ℕ, IfErr, IfOk, OnErr, OnOk, Err, length, option_map};
+ghost use Rattle.std.specs.Prelude.{◌≡◌, ◌⊎◌, ◌<◌, ◌≤◌, ℕ, IfErr, IfOk, OnErr, OnOk, Err, length, option_map};
 ghost use Rattle.std.specs.Option.{option_copied};
 ghost use Rattle.vt_base.specs.Deltas.{IsNet};
 ghost use Rattle.vt_model.specs.Base.{base_of, counts_of};
@@ -11,7 +11,7 @@ ghost use Rattle.vt_session.specs.Run.{IsStart, State, committed, without};
 ghost use Rattle.vt_session.specs.Session.{Commits, HasBuffers, IsDenied, IsOfOne, StandsFor, table_named};
 ghost use Rattle.vt_session.specs.declared.fault.SessionFault.TheVariants as fault;
 
-use crate::buffers::{Buffer, add_change, begin, end, place_of};
+use crate::buffers::{Buffer, add_change, begin, end, place_of, refused};
 use crate::committing::make;
 use crate::{SessionFault, StartFault};
 use std::alloc::Global;
@@ -153,8 +153,7 @@ impl Session {
                 Ok(next.report)
             }
             Err(ApplyFault::Refused { at, why }) => {
-                end(&mut self.buffers, client);
-                Err(SessionFault::Refused { at, why })
+                Err(refused(&mut self.buffers, client, at, why))
             }
             Err(ApplyFault::NoMemory) => Err(SessionFault::NoMemory),
         }
