@@ -2,11 +2,11 @@
 use Rattle.std.specs.Prelude.{◌≡◌, ℕ, List, IfOk, OnOk, OnErr, Result, Ok, Err}
 use Rattle.vt_base.specs.Deltas.{IsNet}
 use Rattle.vt_model.specs.Base.{base_of}
+use Rattle.vt_model.specs.Touched.{AreTouched}
 use Rattle.vt_model.specs.Transaction.{transaction}
 use Rattle.vt_model.specs.declared.change.Change.{Change}
 use Rattle.vt_model.specs.declared.change.Refusal.{Refusal}
 use Rattle.vt_graph.specs.Held.{Held}
-use Rattle.vt_change.specs.Touched.{touched_objects}
 use Rattle.vt_change.specs.Leading.{IsBack, LeadsBack}
 use Rattle.vt_change.specs.declared.applied.Applied.{Applied}
 use Rattle.vt_change.specs.declared.fault.ApplyFault.{ApplyFault}
@@ -22,6 +22,6 @@ pub record Applies (changes : List Change) (old new : Held) (result : Result App
   pub unchanged : OnErr result (IsBack old new)
   -- the delta is the net one, and those are touched that have other values than before
   pub delta : IfOk result (λ applied. IsNet (base_of old.meta old.model) (base_of old.meta new.model) applied.delta)
-  pub touched : IfOk result (λ applied. applied.touched ≡ touched_objects old.model new.model)
+  pub touched : IfOk result (λ applied. AreTouched old.model new.model applied.touched)
   -- it can be undone, and then all is as before
   pub back : IfOk result (λ applied. LeadsBack old applied new)

@@ -1,4 +1,5 @@
 mod BufferLemmas
+mod DenialLemmas
 mod StateLemmas
 mod LiveLemmas
 mod NextLemmas

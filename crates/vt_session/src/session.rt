@@ -195,6 +195,13 @@ impl Session {
         }
     }
 
+    /// The patterns.
+    pub fn program(&self) -> &Program
+        ensures { result.now ≡ self.now.program }
+    {
+        &self.program
+    }
+
     /// The model.
     pub fn store(&self) -> &Store
         ensures meta { result.now.meta ≡ self.now.meta }
