@@ -1,4 +1,6 @@
 // What a step does to a pattern's matches, over pairs of an object and a number.
+ghost use Rattle.vt_model.specs.Touched.{Rise};
+
 use crate::{PatternEvents, StepReport};
 use std::alloc::Global;
 use std::test::Fail;
@@ -26,13 +28,16 @@ fn are(alloc: Global, found: &Rows, pairs: &[(u32, i64)]) -> Result<bool, NoMemo
 }
 
 // The matches before are of the objects 1, 2, 3 and 5, those after of 2, 3, 4 and 5.
-fn events(alloc: Global, touched: &[ObjId]) -> Result<PatternEvents, NoMemory> {
+fn events(alloc: Global, touched: &[ObjId]) -> Result<PatternEvents, NoMemory>
+    requires rise { Rise touched.now }
+{
     let before = rows(alloc, &[(1, 10), (2, 20), (3, 30), (5, 50)])?;
     let after = rows(alloc, &[(2, 20), (3, 30), (4, 40), (5, 50)])?;
     PatternEvents::between(alloc, PatternId(7), &before, &after, touched)
 }
 
 #[test]
+#[tactic(auto, unfolding(std::specs::List::Sorted::IsStrictlySortedBy))]
 fn a_match_that_came_was_created_and_one_that_went_was_deleted(
     rt: HostRuntime,
 ) -> Result<(), Fail> {
@@ -46,6 +51,7 @@ fn a_match_that_came_was_created_and_one_that_went_was_deleted(
 }
 
 #[test]
+#[tactic(auto, unfolding(std::specs::List::Sorted::IsStrictlySortedBy))]
 fn a_match_that_stays_was_updated_where_its_object_was_touched(
     rt: HostRuntime,
 ) -> Result<(), Fail> {
@@ -58,6 +64,7 @@ fn a_match_that_stays_was_updated_where_its_object_was_touched(
 }
 
 #[test]
+#[tactic(auto, unfolding(std::specs::List::Sorted::IsStrictlySortedBy))]
 fn a_report_tells_the_step_and_what_fired(rt: HostRuntime) -> Result<(), Fail> {
     let alloc = rt.alloc();
     let mut list = List::new(alloc);

@@ -44,9 +44,12 @@ module _ (client : List ℕ) (buffers : List Buffer) where
   already_open_due is = (already_open, ap (λ b. if b then Err already_open else (if nat_le 64 (length buffers) then Err too_many_open else Ok opened)) is, refl)
 
   pub too_many_due : is_some (buffer_of client buffers) ≡ false → nat_le 64 (length buffers) ≡ true → IsDenied fault.TooManyOpen (begun client buffers)
-  too_many_due none many = (too_many_open,
+  too_many_due none many = (
+    too_many_open,
     ap (λ b. if b then Err already_open else (if nat_le 64 (length buffers) then Err too_many_open else Ok opened)) none
-    ∙ ap (λ b. if b then Err too_many_open else Ok opened) many, refl)
+        ∙ ap (λ b. if b then Err too_many_open else Ok opened) many,
+    refl,
+  )
 
   pub begun_due : is_some (buffer_of client buffers) ≡ false → nat_le 64 (length buffers) ≡ false → begun client buffers ≡ Ok opened
   begun_due none few =
@@ -61,9 +64,12 @@ module _ (client : List ℕ) (buffers : List Buffer) where
 
     module _ (b : Buffer) (found : buffer_of client buffers ≡ Some b) where
       pub too_many_changes_due : length b.changes ≡ 65536 → IsDenied fault.TooManyChanges (changed client change buffers)
-      too_many_changes_due full = (too_many_changes,
+      too_many_changes_due full = (
+        too_many_changes,
         ap (changed_in client change buffers) found
-        ∙ ap (λ t. if t then Err too_many_changes else Ok (with_change client change buffers)) (eq-eqb (length b.changes) 65536 full), refl)
+            ∙ ap (λ t. if t then Err too_many_changes else Ok (with_change client change buffers)) (eq-eqb (length b.changes) 65536 full),
+        refl,
+      )
 
       pub changed_due : (length b.changes ≡ 65536 → ⊥) → changed client change buffers ≡ Ok (with_change client change buffers)
       changed_due room =

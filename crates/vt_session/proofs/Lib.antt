@@ -3,3 +3,4 @@ mod DenialLemmas
 mod StateLemmas
 mod LiveLemmas
 mod NextLemmas
+mod SampleLemmas

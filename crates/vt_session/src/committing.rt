@@ -82,7 +82,7 @@ fn copied(alloc: Global, objects: &[ObjId]) -> Result<List<ObjId>, NoMemory>
 }
 
 // What comes of a step to the store's model, which touched these objects.
-fn next<L: Ledger>(
+fn outcome<L: Ledger>(
     alloc: Global,
     store: &Store,
     program: &Program,
@@ -142,7 +142,7 @@ pub(crate) fn make<L: Ledger>(
     store.meta();
     narrow_rows_are_named();
     let applied = try_apply(alloc, store, changes)?;
-    match next(
+    match outcome(
         alloc,
         store,
         program,

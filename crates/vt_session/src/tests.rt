@@ -108,7 +108,8 @@ fn a_refused_transaction_ends_and_changes_nothing(rt: HostRuntime) -> Result<(),
     let script = "begin ann\nann create x Book\nann delete z\ncommit ann\nmatches book\n\
         commit ann\nann create x Book\nabort ann\n\
         begin ann\nann create x Book\ncommit ann\nmatches book";
-    let expected = "ok\nok\nok\nchange 1 is refused: an object that is named never existed\n0 matches\n\
+    let expected =
+        "ok\nok\nok\nchange 1 is refused: an object that is named never existed\n0 matches\n\
         the client has no transaction open\nthe client has no transaction open\nthe client has no transaction open\n\
         ok\nok\nstep 1 book[+x] shelf[] touched[]\n1 matches\n";
     assert!(rt; answers::<Brand>(alloc, script, Blank::new(1))?.as_str() == expected);
