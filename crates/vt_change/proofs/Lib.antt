@@ -1,0 +1,10 @@
+mod FurtherNet
+mod ChosenLemmas
+mod BornLemmas
+mod RowLemmas
+mod ItemLemmas
+mod TouchedLemmas
+mod LeadLemmas
+mod TellLemmas
+mod ToldLemmas
+mod WorkLemmas

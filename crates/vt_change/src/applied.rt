@@ -3,6 +3,7 @@ ghost use Rattle.std.specs.Prelude.{◌≡◌};
 ghost use Rattle.vt_graph.specs.Held.{Held};
 ghost use Rattle.vt_change.specs.Leading.{IsBack, LeadsBack, CanUndo};
 
+use crate::returning::take_back;
 use vt_base::{BaseDelta, List, ObjId};
 use vt_store::{Edit, Store};
 
@@ -38,5 +39,6 @@ impl Applied {
         requires fits { CanUndo self store.old }
         ensures { (before : Held) → LeadsBack before self store.old → IsBack before store.new }
     {
+        take_back(store, self.edits);
     }
 }

@@ -1,8 +1,7 @@
 //! Transactions: changes that a store makes as a whole or not at all, what they changed, and the way
 //! back.
 //!
-//! It stands on `vt_store`. Read `specs/Touched.antt`, `specs/Leading.antt`, then
-//! `specs/Applying.antt`.
+//! It stands on `vt_store`. Read `specs/Leading.antt`, then `specs/Applying.antt`.
 #![tactic(auto)]
 
 // Changes that are collected.
@@ -11,6 +10,13 @@ mod transaction;
 mod applied;
 mod applying;
 mod fault;
+// What its changes did so far, and the way back.
+mod naming;
+mod returning;
+mod telling;
+mod working;
+// What holds of every way back.
+mod laws;
 
 // Changes that are collected.
 pub use transaction::{PushFault, Transaction};
@@ -18,3 +24,8 @@ pub use transaction::{PushFault, Transaction};
 pub use applied::Applied;
 pub use applying::try_apply;
 pub use fault::ApplyFault;
+// What holds of every way back.
+pub use laws::leads_back_with_more_room;
+
+#[cfg(test)]
+mod tests;

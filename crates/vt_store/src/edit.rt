@@ -1,5 +1,6 @@
 // What one change did.
-ghost use Rattle.std.specs.Prelude.{◌≡◌, ◌≤◌, [], map};
+ghost use Rattle.std.specs.Prelude.{◌≡◌, ◌≤◌, [], map, option_to_list};
+ghost use Rattle.std.specs.Option.{option_copied};
 ghost use Rattle.vt_store.specs.Inside.Displaced.{links_edit};
 ghost use Rattle.vt_store.specs.Inside.Kept.{AreOf, creation, deletion_edit, waiting_place};
 ghost use Rattle.vt_store.specs.Inside.Assigned.{values_edit};
@@ -142,5 +143,51 @@ impl Edit {
             links_added: List::new(alloc),
             links_removed: links,
         }
+    }
+}
+
+// ---- what a change put in, and what it took out
+
+impl Edit {
+    /// The object that was created.
+    pub fn created(&self) -> Option<&Object>
+        ensures { option_to_list (option_copied result) ≡ self.now.edit.live.added }
+    {
+        self.created.as_ref()
+    }
+
+    /// The objects that were deleted.
+    pub fn deleted(&self) -> &[Buried]
+        ensures { map (λ b. b.object) result.now ≡ self.now.edit.live.removed }
+    {
+        self.deleted.as_slice()
+    }
+
+    /// The values that came.
+    pub fn values_added(&self) -> &[AttributeValue]
+        ensures { result.now ≡ self.now.edit.values.added }
+    {
+        self.values_added.as_slice()
+    }
+
+    /// The values that went.
+    pub fn values_removed(&self) -> &[AttributeValue]
+        ensures { result.now ≡ self.now.edit.values.removed }
+    {
+        self.values_removed.as_slice()
+    }
+
+    /// The links that came.
+    pub fn links_added(&self) -> &[Link]
+        ensures { result.now ≡ self.now.edit.links.added }
+    {
+        self.links_added.as_slice()
+    }
+
+    /// The links that went.
+    pub fn links_removed(&self) -> &[Link]
+        ensures { result.now ≡ self.now.edit.links.removed }
+    {
+        self.links_removed.as_slice()
     }
 }

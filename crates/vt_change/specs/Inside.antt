@@ -1,0 +1,4 @@
+-- No public clause cites a module below.
+pub mod Telling
+pub mod Naming
+pub mod Working
