@@ -14,8 +14,6 @@ pub struct Applied {
     pub(crate) touched: List<ObjId>,
     // In the order in which the changes were made.
     pub(crate) edits: List<Edit>,
-    // STAND-IN
-    pub(crate) ghost never: { ⊥ },
 }
 
 impl Applied {
