@@ -175,10 +175,12 @@ HaveOneEach-push buffers b once none =
 clients-with_change : (client : List ℕ) (change : Change) (buffers : List Buffer) → map (λ b. b.client) (with_change client change buffers) ≡ map (λ b. b.client) buffers
 clients-with_change client change [] = refl
 clients-with_change client change (b ∷ buffers) =
-    elim (is_name b.client client) as (λ (is : Bool). (cond is (record b { changes = b.changes ++ change ∷ [] }) b).client ∷ map (λ (c : Buffer). c.client) (with_change client change buffers) ≡ b.client ∷ map (λ (c : Buffer). c.client) buffers) [
-      | true ↦ ap (λ names. b.client ∷ names) (clients-with_change client change buffers)
-      | false ↦ ap (λ names. b.client ∷ names) (clients-with_change client change buffers)
-    ]
+    ap (λ name. name ∷ map (λ (c : Buffer). c.client) (with_change client change buffers)) (same_client (is_name b.client client))
+    ∙ ap (λ names. b.client ∷ names) (clients-with_change client change buffers)
+  where
+    same_client : (is : Bool) → (cond is (record b { changes = b.changes ++ change ∷ [] }) b).client ≡ b.client
+    same_client true = refl
+    same_client false = refl
 
 pub HaveOneEach-with_change : (client : List ℕ) (change : Change) (buffers : List Buffer) → HaveOneEach buffers → HaveOneEach (with_change client change buffers)
 HaveOneEach-with_change client change buffers once = ap is_distinct (clients-with_change client change buffers) ∙ once

@@ -77,7 +77,7 @@ module _ (client : List ℕ) (old : Kept) (state : State) (stands : StandsFor ol
       model = new.model;
       due = made_due b (Ok new.model) found made;
       step = the_step;
-      is = record { cause = refl; model = refl; tables = next.tables };
+      is = record { caused = refl; model = refl; tables = next.tables };
       reports = record {
         number = next.number_is ∙ stands.step;
         events = subst (λ g. AreOfPatterns g new.model (tables_after state.steps) new.tables report.events) stands.model (subst (λ tables. AreOfPatterns old.model new.model tables new.tables report.events) stands.tables next.events);

@@ -23,8 +23,12 @@ buffer_of client buffers = find (λ b. is_name b.client client) buffers
 abbrev pub without_buffer : List ℕ → List Buffer → List Buffer
 without_buffer client buffers = filter (λ b. not (is_name b.client client)) buffers
 
+-- the buffer with the change, where it is the client's
+abbrev pub with_its_change : List ℕ → Change → Buffer → Buffer
+with_its_change client change b = if is_name b.client client then record b { changes = b.changes ++ change ∷ [] } else b
+
 abbrev pub with_change : List ℕ → Change → List Buffer → List Buffer
-with_change client change buffers = map (λ b. if is_name b.client client then record b { changes = b.changes ++ change ∷ [] } else b) buffers
+with_change client change buffers = map (with_its_change client change) buffers
 
 -- ---- what the calls make of the buffers
 

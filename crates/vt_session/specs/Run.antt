@@ -17,7 +17,7 @@ pub record State : Type 0 where
 
 -- a step that leaves a model; the tables after it are those of the patterns' matches
 pub record IsStep (meta : Metamodel) (program : Program) (cause : Cause) (g : Model) (step : Step) : Type 0 where
-  pub cause : step.cause ≡ cause
+  pub caused : step.cause ≡ cause
   pub model : step.model ≡ g
   pub tables : StandFor meta g program step.tables
 

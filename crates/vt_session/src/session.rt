@@ -38,10 +38,14 @@ pub struct Session {
 
 impl Model for Session {
     ghost use Rattle.std.specs.Prelude.{map};
+    ghost use Rattle.std.specs.Coded.{codes};
+    ghost use Rattle.vt_text.specs.contracts.expr.Expr as expr;
     ghost use Rattle.vt_session.specs.Session.{Kept};
     ghost use Rattle.vt_session.specs.Inside.Order.{IsInOrder};
 
     ghost Value = { Kept };
+
+    ghost coded = { Prim.hlevel (codes, expr.the_row.coded) };
 
     ghost view = { λ s. record {
       meta = s.store.meta;
