@@ -98,7 +98,8 @@ any-map p (b ∷ buffers) = ap (λ rest. p b.client || rest) (any-map p buffers)
 pub only-position : (client : List ℕ) (buffers : List Buffer) (i : ℕ) → HaveOneEach buffers → position (is_of client) buffers ≡ Some i → IsOnlyAt (is_of client) buffers i
 only-position client [] i once e = cc
 only-position client (b ∷ buffers) i once e =
-    by (is_name b.client client) refl (position (is_of client) buffers) refl (sym (position-cons (is_of client) b buffers) ∙ e)
+    by (λ j at. only-position client buffers j (and_right (not (list_any (λ n. is_name n b.client) (map (λ c. c.client) buffers))) (is_distinct (map (λ c. c.client) buffers)) once) at)
+    (is_name b.client client) refl (position (is_of client) buffers) refl (sym (position-cons (is_of client) b buffers) ∙ e)
   where
     none_else : is_name b.client client ≡ true → list_any (is_of client) buffers ≡ false
     none_else is =
@@ -106,13 +107,13 @@ only-position client (b ∷ buffers) i once e =
         (sym (any-map (λ n. is_name n b.client) buffers)
         ∙ not_true (list_any (λ n. is_name n b.client) (map (λ c. c.client) buffers)) (and_left (not (list_any (λ n. is_name n b.client) (map (λ c. c.client) buffers))) (is_distinct (map (λ c. c.client) buffers)) once))
 
-    by : (is : Bool) → is_name b.client client ≡ is → (r : Option ℕ) → position (is_of client) buffers ≡ r → cond is (Some 0) (option_map (λ n. n + 1) r) ≡ Some i → IsOnlyAt (is_of client) (b ∷ buffers) i
-    by true here r rest found = subst (IsOnlyAt (is_of client) (b ∷ buffers)) (same_Some 0 i found) (here, none_else here)
-    by false away None rest found = cc
-    by false away (Some j) rest found =
+    by : ((j : ℕ) → position (is_of client) buffers ≡ Some j → IsOnlyAt (is_of client) buffers j)
+        → (is : Bool) → is_name b.client client ≡ is → (r : Option ℕ) → position (is_of client) buffers ≡ r → cond is (Some 0) (option_map (λ n. n + 1) r) ≡ Some i → IsOnlyAt (is_of client) (b ∷ buffers) i
+    by rest true here r at found = subst (IsOnlyAt (is_of client) (b ∷ buffers)) (same_Some 0 i found) (here, none_else here)
+    by rest false away None at found = cc
+    by rest false away (Some j) at found =
         let next : suc j ≡ i = omega (arith, same_Some (j + 1) i found) in
-        subst (IsOnlyAt (is_of client) (b ∷ buffers)) next
-        (away, only-position client buffers j (and_right (not (list_any (λ n. is_name n b.client) (map (λ c. c.client) buffers))) (is_distinct (map (λ c. c.client) buffers)) once) rest)
+        subst (IsOnlyAt (is_of client) (b ∷ buffers)) next (away, rest j at)
 
 -- ---- no client has two
 

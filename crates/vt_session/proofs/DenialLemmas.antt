@@ -9,7 +9,7 @@ use Rattle.vt_session.specs.declared.fault.SessionFault.TheVariants as fault
 use Rattle.vt_session.specs.Buffers.{Denial, already_open, too_many_open, not_open, too_many_changes, buffer_of, without_buffer, with_change, begun, changed, changed_in}
 use Rattle.vt_session.specs.Session.{IsDenied}
 use Rattle.vt_session.specs.Inside.Order.{HaveOneEach}
-use Rattle.vt_session.proofs.BufferLemmas.{is_of, only-position, find-only, find-none, none-position, remove-only, without-none}
+use Rattle.vt_session.proofs.BufferLemmas.{is_of, only-position, find-only, find-none, none-position, without-none, HaveOneEach-push}
 
 module _ (client : List ℕ) (buffers : List Buffer) where
   -- ---- what a search tells
@@ -39,6 +39,18 @@ module _ (client : List ℕ) (buffers : List Buffer) where
 
   abbrev opened : List Buffer
   opened = buffers ++ record { client = client; changes = [] } ∷ []
+
+  -- a search without a result finds nothing
+  pub none_at : is_some (position (is_of client) buffers) ≡ false → position (is_of client) buffers ≡ None
+  none_at none = by (position (is_of client) buffers) none
+    where
+      by : (r : Option ℕ) → is_some r ≡ false → r ≡ None
+      by None e = refl
+      by (Some i) e = cc
+
+  pub opened_once : HaveOneEach buffers → is_some (position (is_of client) buffers) ≡ false → HaveOneEach opened
+  opened_once once none =
+      HaveOneEach-push buffers (record { client = client; changes = [] }) once (none-position (is_of client) buffers (none_at none))
 
   pub already_open_due : is_some (buffer_of client buffers) ≡ true → IsDenied fault.AlreadyOpen (begun client buffers)
   already_open_due is = (already_open, ap (λ b. if b then Err already_open else (if nat_le 64 (length buffers) then Err too_many_open else Ok opened)) is, refl)

@@ -28,19 +28,20 @@ use Rattle.vt_session.specs.Inside.Next.{AllHoldLive}
 found_lives : (o : ObjId) (live : List Object) → IsSome (option_map (λ (n : ObjectName). n.name) (find (λ (n : ObjectName). n.object.0 == o.0) (map (λ (x : Object). record { object = x.number; name = x.name }) live)))
     → (c : ClassId) × IsLive live o c
 found_lives o [] found = absurd (false≢true found)
-found_lives o (x ∷ live) found = by (x.number.0 == o.0) refl found
+found_lives o (x ∷ live) found = by (found_lives o live) (x.number.0 == o.0) refl found
   where
     behind : ((c : ClassId) × IsLive live o c) → (c : ClassId) × IsLive (x ∷ live) o c
     behind rest = (rest.0, record { name = rest.1.name; there = Contains-behind x (record { number = o; name = rest.1.name; class = rest.0 }) live rest.1.there })
 
-    by : (is : Bool) → (x.number.0 == o.0) ≡ is
+    by : (IsSome (option_map (λ (n : ObjectName). n.name) (find (λ (n : ObjectName). n.object.0 == o.0) (map (λ (y : Object). record { object = y.number; name = y.name }) live))) → (c : ClassId) × IsLive live o c)
+        → (is : Bool) → (x.number.0 == o.0) ≡ is
         → IsSome (option_map (λ (n : ObjectName). n.name) (cond is (Some (record { object = x.number; name = x.name })) (find (λ (n : ObjectName). n.object.0 == o.0) (map (λ (y : Object). record { object = y.number; name = y.name }) live))))
         → (c : ClassId) × IsLive (x ∷ live) o c
-    by true is there =
+    by rest true is there =
         let same : x.number.0 ≡ o.0 = equal_numbers x.number.0 o.0 is in
         let it : x ≡ record { number = o; name = x.name; class = x.class } = λ i. record { number = record { 0 = same i }; name = x.name; class = x.class } in
         (x.class, record { name = x.name; there = subst (Contains (x ∷ live)) it (Contains-head x live) })
-    by false is there = behind (found_lives o live there)
+    by rest false is there = behind (rest there)
 
 -- what is true of all tables is true of each, and of the empty one where there is none
 at_table : (Q : List Value → Type 0) (tables : List (List (List Value))) (n : ℕ) → AllByRecursion (AllByRecursion Q) tables → AllByRecursion Q (unwrap_or (slice_get tables n) [])
@@ -50,11 +51,11 @@ at_table Q (table ∷ tables) (suc n) all = at_table Q tables n all.1
 
 at_row : (Q : List Value → Type 0) (rows : List (List Value)) (row : List Value) → AllByRecursion Q rows → has_row rows row ≡ true → Q row
 at_row Q [] row all there = absurd (false≢true there)
-at_row Q (r ∷ rows) row all there = by (eq_by_cmp tuple_cmp row r) refl there
+at_row Q (r ∷ rows) row all there = by (at_row Q rows row all.1) (eq_by_cmp tuple_cmp row r) refl there
   where
-    by : (is : Bool) → eq_by_cmp tuple_cmp row r ≡ is → (is || has_row rows row) ≡ true → Q row
-    by true is found = subst Q (sym ((eq_by_cmp-Decides IsTotalOrder-tuple_cmp exact-tuple_cmp row r).0 is)) all.0
-    by false is found = at_row Q rows row all.1 found
+    by : (has_row rows row ≡ true → Q row) → (is : Bool) → eq_by_cmp tuple_cmp row r ≡ is → (is || has_row rows row) ≡ true → Q row
+    by rest true is found = subst Q (sym ((eq_by_cmp-Decides IsTotalOrder-tuple_cmp exact-tuple_cmp row r).0 is)) all.0
+    by rest false is found = rest found
 
 pub all_hold_live : (enums : List EnumNames) (g : Model) (tables : List (List (List Value))) → AllByRecursion (AllByRecursion (AreNamed enums (object_names g))) tables → AllHoldLive g tables
 all_hold_live enums g tables named p row there o among =
