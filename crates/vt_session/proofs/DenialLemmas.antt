@@ -1,7 +1,8 @@
 -- What calls on buffers are due to answer.
-use Rattle.std.proofs.Common.{◌≡◌, ℕ, ◌<◌, Bool, true, false, List, [], ◌∷◌, ◌++◌, length, Option, Some, None, Result, Ok, Err, refl, sym, ap, subst, ◌∙◌}
-use Rattle.std.specs.Prelude.{◌==◌, find, position, filter, not, slice_get, nat_le, is_some, if◌then◌else◌}
+use Rattle.std.proofs.Common.{◌≡◌, ℕ, ◌<◌, Bool, true, false, List, [], ◌∷◌, ◌++◌, length, get_or, Option, Some, None, Result, Ok, Err, refl, sym, ap, subst, ◌∙◌}
+use Rattle.std.specs.Prelude.{◌==◌, find, position, filter, not, slice_get, slice_set, nat_le, is_some, if◌then◌else◌}
 use Rattle.std.proofs.lemmas.Bool.{eq-eqb, ne_eqb}
+use Rattle.std.proofs.lemmas.Option.{slice_get-get_or}
 use Rattle.vt_facts.proofs.PositionLemmas.{IsAt-position}
 use Rattle.vt_model.specs.declared.change.Change.{Change}
 use Rattle.vt_session.specs.declared.buffers.Buffer.{Buffer}
@@ -9,7 +10,7 @@ use Rattle.vt_session.specs.declared.fault.SessionFault.TheVariants as fault
 use Rattle.vt_session.specs.Buffers.{Denial, already_open, too_many_open, not_open, too_many_changes, buffer_of, without_buffer, with_change, begun, changed, changed_in}
 use Rattle.vt_session.specs.Session.{IsDenied}
 use Rattle.vt_session.specs.Inside.Order.{HaveOneEach}
-use Rattle.vt_session.proofs.BufferLemmas.{is_of, only-position, find-only, find-none, none-position, without-none, HaveOneEach-push}
+use Rattle.vt_session.proofs.BufferLemmas.{is_of, only-position, find-only, find-none, none-position, without-none, HaveOneEach-push, set-only}
 
 module _ (client : List ℕ) (buffers : List Buffer) where
   -- ---- what a search tells
@@ -25,6 +26,13 @@ module _ (client : List ℕ) (buffers : List Buffer) where
       let place = IsAt-position (is_of client) buffers i at in
       (place.item, record { is = find-only (is_of client) buffers i (only-position client buffers i once at) ∙ place.there; there = place.there; in_range = place.in_range })
 
+  -- it is what is read there
+  pub read_at : (i : ℕ) (x : Buffer) → HaveOneEach buffers → position (is_of client) buffers ≡ Some i → x ≡ get_or buffers i x → slice_get buffers i ≡ Some x
+  read_at i x once at is = slice_get-get_or buffers i x (found_at once i at).1.in_range ∙ ap Some (sym is)
+
+  pub buffer_read : (i : ℕ) (x : Buffer) → HaveOneEach buffers → position (is_of client) buffers ≡ Some i → x ≡ get_or buffers i x → buffer_of client buffers ≡ Some x
+  buffer_read i x once at is = find-only (is_of client) buffers i (only-position client buffers i once at) ∙ read_at i x once at is
+
   pub none_found : position (is_of client) buffers ≡ None → buffer_of client buffers ≡ None
   none_found none = find-none (is_of client) buffers (none-position (is_of client) buffers none)
 
@@ -37,7 +45,7 @@ module _ (client : List ℕ) (buffers : List Buffer) where
 
   -- ---- begin
 
-  abbrev opened : List Buffer
+  abbrev pub opened : List Buffer
   opened = buffers ++ record { client = client; changes = [] } ∷ []
 
   -- a search without a result finds nothing
@@ -87,6 +95,13 @@ module _ (client : List ℕ) (buffers : List Buffer) where
       changed_due room =
           ap (changed_in client change buffers) found
           ∙ ap (λ t. if t then Err too_many_changes else Ok (with_change client change buffers)) (ne_eqb (length b.changes) 65536 room)
+
+    -- a change that is pushed to the buffer at its place
+    pub pushed : (i : ℕ) (x : Buffer) (after : List Change) → HaveOneEach buffers → position (is_of client) buffers ≡ Some i → x ≡ get_or buffers i x → after ≡ x.changes ++ change ∷ []
+        → slice_set buffers i (record { client = x.client; changes = after }) ≡ with_change client change buffers
+    pushed i x after once at is grown =
+        ap (λ changes. slice_set buffers i (record { client = x.client; changes = changes })) grown
+        ∙ set-only (is_of client) (λ b. record b { changes = b.changes ++ change ∷ [] }) buffers i x (only-position client buffers i once at) (read_at i x once at is)
 
   -- ---- the end of a buffer
 

@@ -1,6 +1,6 @@
 -- What happened to the patterns, one after the other.
 use Rattle.std.proofs.Common.{◌≡◌, ℕ, zero, suc, ◌+◌, ◌<◌, List, [], ◌∷◌, ◌++◌, length, map, Option, Some, None, refl, sym, ap, subst, ◌∙◌, ◌⊎◌, inl, inr, arith}
-use Rattle.std.specs.Prelude.{slice_get, unwrap_or, option_map}
+use Rattle.std.specs.Prelude.{Result, Ok, Err, IfOk, slice_get, unwrap_or, option_map}
 use Rattle.std.proofs.lemmas.Option.{same_Some, slice_get-map}
 use Rattle.vt_base.specs.declared.numbers.ObjId.{ObjId}
 use Rattle.vt_base.specs.declared.numbers.PatternId.{PatternId}
@@ -62,3 +62,8 @@ AreOfPatterns-each old new touched events count each g h t live_before live_afte
   count = count;
   each = λ p e at. let of = each p e at in (of.pattern, of.events g h t live_before live_after);
 }
+
+-- what two facts on an answer lead to
+pub if_ok : {A E : Type 0} (r : Result A E) (P Q R : A → Type 0) → ((x : A) → P x → Q x → R x) → IfOk r P → IfOk r Q → IfOk r R
+if_ok (Ok x) P Q R leads p q = leads x p q
+if_ok (Err e) P Q R leads p q = tt

@@ -1,6 +1,9 @@
 -- A session, and the state of the run that it stands for.
 use Rattle.std.proofs.Common.{◌≡◌, ℕ, suc, ◌+◌, List, [], ◌∷◌, length, Option, Some, None, Result, Ok, Err, refl, sym, ap, subst, ◌∙◌, arith}
-use Rattle.std.specs.Prelude.{IfErr, OnOk, All}
+use Rattle.std.specs.Prelude.{◌&&◌, Bool, IfErr, OnOk, All, map, position, slice_get, option_map, option_and_then}
+use Rattle.std.proofs.lemmas.Option.{slice_get-map}
+use Rattle.vt_facts.specs.Names.{is_name}
+use Rattle.vt_query.specs.declared.program.Pattern.{Pattern}
 use Rattle.std.proofs.lemmas.List.Elements.{All-cons}
 use Rattle.vt_base.specs.declared.value.Value.{Value}
 use Rattle.vt_model.specs.Metamodel.{Metamodel}
@@ -18,7 +21,7 @@ use Rattle.vt_session.specs.declared.fault.SessionFault.{SessionFault}
 use Rattle.vt_session.specs.declared.fault.SessionFault.TheVariants as fault
 use Rattle.vt_session.specs.Buffers.{Denial, not_open, buffer_of, without_buffer}
 use Rattle.vt_session.specs.Run.{State, committed, committed_from, refused_at, without}
-use Rattle.vt_session.specs.Session.{Kept, StandsFor, IsDenied, HasBuffers, Commits}
+use Rattle.vt_session.specs.Session.{Kept, StandsFor, IsDenied, HasBuffers, Commits, table_named}
 use Rattle.vt_session.specs.Inside.Next.{IsNext}
 
 -- ---- calls that change buffers alone
@@ -98,3 +101,17 @@ module _ (client : List ℕ) (old : Kept) (state : State) (stands : StandsFor ol
 
         later : (n : ℕ) → old.step + 1 ≡ n → new.step + 1 ≡ suc n
         later n is = omega (arith, step, is)
+
+-- ---- what is read
+
+-- the pattern of the name that isn't private
+abbrev pub is_shown : List ℕ → Pattern → Bool
+is_shown name p = p.shown && is_name p.name name
+
+module _ {X : Type 0} (f : X → List (List Value)) (kept : Kept) (tables : List X) (name : List ℕ) (same : kept.tables ≡ map f tables) where
+  pub named_at : (i : ℕ) → position (is_shown name) kept.program.patterns ≡ Some i → option_map f (slice_get tables i) ≡ table_named kept name
+  named_at i at =
+      sym (slice_get-map f tables i) ∙ ap (λ all. slice_get all i) (sym same) ∙ sym (ap (option_and_then (slice_get kept.tables)) at)
+
+pub none_named : (kept : Kept) (name : List ℕ) → position (is_shown name) kept.program.patterns ≡ None → None ≡ table_named kept name
+none_named kept name none = sym (ap (option_and_then (slice_get kept.tables)) none)

@@ -1,5 +1,5 @@
 // The transactions that clients have open.
-ghost use Rattle.std.specs.Prelude.{◌≡◌, ◌++◌, [], ◌∷◌, IfErr, OnErr, OnOk, Ok, is_some, position};
+ghost use Rattle.std.specs.Prelude.{◌≡◌, ◌++◌, [], ◌∷◌, false, IfErr, OnErr, OnOk, Ok, is_some, position};
 ghost use Rattle.vt_facts.specs.Names.{is_name};
 ghost use Rattle.vt_session.specs.Buffers.{begun, buffer_of, changed, without_buffer};
 ghost use Rattle.vt_session.specs.Session.{IsDenied};
@@ -90,6 +90,7 @@ pub(crate) fn end(buffers: &mut Vec<Buffer>, client: &Text) -> bool
     requires clients { HaveOneEach buffers.old.items }
     ensures stood { result ≡ is_some (buffer_of client.now buffers.old.items) }
     ensures ended { buffers.new.items ≡ without_buffer client.now buffers.old.items }
+    ensures kept { result ≡ false → buffers.new.items ≡ buffers.old.items }
     ensures clients { HaveOneEach buffers.new.items }
 {
     match place_of(buffers, client) {

@@ -1,6 +1,7 @@
 // A session.
-ghost use Rattle.std.specs.Prelude.{◌≡◌, ◌⊎◌, ◌<◌, ◌≤◌, ℕ, IfErr, IfOk, OnErr, OnOk, Err, length, option_map};
+ghost use Rattle.std.specs.Prelude.{◌≡◌, ◌⊎◌, ◌<◌, ◌≤◌, ℕ, ◌&&◌, IfErr, IfOk, OnErr, OnOk, Err, length, option_map, position};
 ghost use Rattle.std.specs.Option.{option_copied};
+ghost use Rattle.vt_facts.specs.Names.{is_name};
 ghost use Rattle.vt_base.specs.Deltas.{IsNet};
 ghost use Rattle.vt_model.specs.Base.{base_of, counts_of};
 ghost use Rattle.vt_model.specs.Model.{empty_model};
@@ -22,7 +23,7 @@ use vt_change::ApplyFault;
 use vt_direct::evaluate_directly;
 use vt_history::StepReport;
 use vt_model::Change;
-use vt_query::Program;
+use vt_query::{Pattern, Program};
 use vt_store::Store;
 
 /// A model, the match lists of a program over it, and the transactions that clients have open.
@@ -172,28 +173,28 @@ impl Session {
             → IfErr result (λ why. (why ≡ fault.NotOpen) × (aborted client.now state.buffers ≡ Err not_open)) }
         ensures unchanged { OnErr result (self.new ≡ self.old) }
     {
-        if end(&mut self.buffers, client) {
-            Ok(())
-        } else {
-            Err(SessionFault::NotOpen)
+        if !end(&mut self.buffers, client) {
+            return Err(SessionFault::NotOpen);
         }
+        Ok(())
     }
 }
 
 // ---- what is read
+
+// The place of the pattern of this name that isn't private.
+fn shown_place(patterns: &[Pattern], pattern: &Text) -> Option<usize>
+    ensures { result ≡ position (λ p. p.shown && is_name p.name pattern.now) patterns.now }
+{
+    patterns.iter().position(|p| p.shown && p.name == *pattern)
+}
 
 impl Session {
     /// The matches of the pattern of this name. None of a name that no pattern has, or a private one.
     pub fn matches(&self, pattern: &Text) -> Option<&Rows>
         ensures { option_map (λ rows. rows.items) (option_copied result) ≡ table_named self.now pattern.now }
     {
-        let place = self
-            .program
-            .patterns
-            .as_slice()
-            .iter()
-            .position(|p| p.shown && p.name == *pattern);
-        match place {
+        match shown_place(self.program.patterns.as_slice(), pattern) {
             Some(at) => self.tables.get(at),
             None => None,
         }
