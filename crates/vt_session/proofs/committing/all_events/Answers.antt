@@ -23,4 +23,4 @@ returns c =
     let old = map (λ rows. rows.items) c.args.before.now in
     let new = map (λ rows. rows.items) c.args.after.now in
     let all : length c.loop-number.events ≡ length c.args.after.now = omega (arith, c.loop-number.invariant.count, c.loop-number-test.false, c.loop-number.auto.number-end) in
-    AreOfPatterns-each old new c.args.touched.now c.loop-number.events (all ∙ sym (length-map (λ rows. rows.items) c.args.after.now)) c.loop-number.invariant.each
+    AreOfPatterns-each old new c.args.touched.now c.loop-number.events (all ∙ sym (length-map c.args.after.now (λ rows. rows.items))) c.loop-number.invariant.each

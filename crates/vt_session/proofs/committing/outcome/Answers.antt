@@ -13,12 +13,12 @@ use Rattle.vt_session.proofs.committing.outcome.Goals as goal
 pub all_events-requires-clause-same : goal.all_events-requires-clause-same
 all_events-requires-clause-same g c =
     let stand = c.in_ok-tables.ensures.tables c.args.store.now.meta c.args.store.now.model refl in
-    c.requires.same ∙ sym (ap length c.as_slice.ensures ∙ sym (length-map (λ rows. rows.items) c.in_ok-tables.tables) ∙ stand.count)
+    c.requires.same ∙ sym (ap length c.as_slice.ensures ∙ sym (length-map c.in_ok-tables.tables (λ rows. rows.items)) ∙ stand.count)
 
 pub all_events-requires-clause-numbered : goal.all_events-requires-clause-numbered
 all_events-requires-clause-numbered g c =
     let stand = c.in_ok-tables.ensures.tables c.args.store.now.meta c.args.store.now.model refl in
-    subst (λ n. n ≤ 65536) (sym (ap length c.as_slice.ensures ∙ sym (length-map (λ rows. rows.items) c.in_ok-tables.tables) ∙ stand.count)) c.requires.numbered
+    subst (λ n. n ≤ 65536) (sym (ap length c.as_slice.ensures ∙ sym (length-map c.in_ok-tables.tables (λ rows. rows.items)) ∙ stand.count)) c.requires.numbered
 
 -- the tables are those of the model, and their rows hold live objects alone
 pub returns : goal.returns

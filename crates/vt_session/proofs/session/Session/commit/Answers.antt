@@ -40,7 +40,7 @@ returns-in-Err-Refused-clause-refused g c =
     let old : Kept = record { meta = c.self.inside.store.meta; program = c.self.inside.program; model = c.self.inside.store.model; tables = map (λ rows. rows.items) c.self.inside.tables; step = c.self.inside.step; buffers = c.self.inside.buffers.items } in
     let at : position (is_of client) old.buffers ≡ Some c.in-Some.at = sym (ap (position (is_of c.args.client.now)) c.deref.ensures.value) ∙ sym c.place_of.ensures ∙ c.in-Some.is in
     let found = buffer_read client old.buffers c.in-Some.at c.index.result.now c.self.invariant.clients at c.index.ensures in
-    let is : c.make-made.result ≡ Err (apply.Refused c.in-Err-Refused.at c.in-Err-Refused.why) = c.in-Err-Refused.is ∙ ap Err c.in-Err-Refused.field-0-is in
+    let is : c.make-made.result ≡ Err (apply.Refused c.in-Err-Refused.at c.in-Err-Refused.why) = cc (c.in-Err-Refused.is, c.in-Err-Refused.field-0-is) in
     let stopped = subst (λ changes. transaction old.meta old.model changes ≡ Err (record { at = c.in-Err-Refused.at; why = c.in-Err-Refused.why })) c.changes.ensures.value (c.make-made.ensures.refused c.in-Err-Refused.at c.in-Err-Refused.why is) in
     subst (λ (kept : Kept). (state : State) → StandsFor kept state → IsDenied c.refused.result (committed kept.meta client state)) c.self.view_is
     (λ state stands. subst (λ why. IsDenied why (committed old.meta client state)) (sym c.refused.ensures.fault)
