@@ -157,10 +157,12 @@ impl Session {
                 self.step += 1;
                 Ok(next.report)
             }
-            Err(ApplyFault::Refused { at, why }) => {
-                Err(refused(&mut self.buffers, client, at, why))
-            }
-            Err(ApplyFault::NoMemory) => Err(SessionFault::NoMemory),
+            Err(fault) => match fault {
+                ApplyFault::Refused { at, why } => {
+                    Err(refused(&mut self.buffers, client, at, why))
+                }
+                ApplyFault::NoMemory => Err(SessionFault::NoMemory),
+            },
         }
     }
 

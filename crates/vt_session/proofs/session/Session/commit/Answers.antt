@@ -34,14 +34,14 @@ returns-in-Ok-clause-done g c =
     (λ state stands. commits client old state stands new c.in-Ok.ensures.meta refl c.index.result.now c.in-Ok.next.report found made next refl c.end.ensures.ended)
 
 -- or it is refused
-pub returns-in-Err-Refused-clause-refused : goal.returns-in-Err-Refused-clause-refused
-returns-in-Err-Refused-clause-refused g c =
+pub returns-in-Refused-clause-refused : goal.returns-in-Refused-clause-refused
+returns-in-Refused-clause-refused g c =
     let client = c.args.client.now in
     let old : Kept = record { meta = c.self.inside.store.meta; program = c.self.inside.program; model = c.self.inside.store.model; tables = map (λ rows. rows.items) c.self.inside.tables; step = c.self.inside.step; buffers = c.self.inside.buffers.items } in
     let at : position (is_of client) old.buffers ≡ Some c.in-Some.at = sym (ap (position (is_of c.args.client.now)) c.deref.ensures.value) ∙ sym c.place_of.ensures ∙ c.in-Some.is in
     let found = buffer_read client old.buffers c.in-Some.at c.index.result.now c.self.invariant.clients at c.index.ensures in
-    let is : c.make-made.result ≡ Err (apply.Refused c.in-Err-Refused.at c.in-Err-Refused.why) = cc (c.in-Err-Refused.is, c.in-Err-Refused.field-0-is) in
-    let stopped = subst (λ changes. transaction old.meta old.model changes ≡ Err (record { at = c.in-Err-Refused.at; why = c.in-Err-Refused.why })) c.changes.ensures.value (c.make-made.ensures.refused c.in-Err-Refused.at c.in-Err-Refused.why is) in
+    let is : c.make-made.result ≡ Err (apply.Refused c.in-Refused.at c.in-Refused.why) = c.in-Err.is ∙ ap (λ why. Err why) c.in-Refused.is in
+    let stopped = subst (λ changes. transaction old.meta old.model changes ≡ Err (record { at = c.in-Refused.at; why = c.in-Refused.why })) c.changes.ensures.value (c.make-made.ensures.refused c.in-Refused.at c.in-Refused.why is) in
     subst (λ (kept : Kept). (state : State) → StandsFor kept state → IsDenied c.refused.result (committed kept.meta client state)) c.self.view_is
     (λ state stands. subst (λ why. IsDenied why (committed old.meta client state)) (sym c.refused.ensures.fault)
-    (refused_due client old state stands c.index.result.now c.in-Err-Refused.at c.in-Err-Refused.why found stopped))
+    (refused_due client old state stands c.index.result.now c.in-Refused.at c.in-Refused.why found stopped))
