@@ -69,5 +69,8 @@ pub record Commits (client : List ℕ) (state : State) (report : StepReport) (ol
 -- ---- what is read
 
 -- the table of the pattern of this name that isn't private
+abbrev pub table_in : Program → List (List (List Value)) → List ℕ → Option (List (List Value))
+table_in program tables name = option_and_then (slice_get tables) (position (λ p. p.shown && is_name p.name name) program.patterns)
+
 abbrev pub table_named : Kept → List ℕ → Option (List (List Value))
-table_named kept name = option_and_then (slice_get kept.tables) (position (λ p. p.shown && is_name p.name name) kept.program.patterns)
+table_named kept name = table_in kept.program kept.tables name
