@@ -12,13 +12,16 @@ use Rattle.vt_vql.specs.Queries.{Accepts, IsFaultOf}
 use Rattle.vt_vql.specs.declared.fault.QueryFault.{QueryFault}
 use Rattle.vt_model_json.specs.Loading.{loaded}
 use Rattle.vt_model_json.specs.Dump.{dump}
+use Rattle.vt_script.specs.Script.{script_of}
+use Rattle.vt_script.specs.declared.line.Line.{Line}
 use Rattle.vt_cli.specs.Command.{Command, command_of}
 use Rattle.vt_cli.specs.Lines.{usage_line}
 use Rattle.vt_cli.specs.Texts.{◌>>=◌, texts_of, text_of}
-use Rattle.vt_cli.specs.Refusals.{refused_meta, refused_model, refused_queries}
+use Rattle.vt_cli.specs.Refusals.{refused_meta, refused_model, refused_queries, refused_rules, refused_script}
 use Rattle.vt_cli.specs.Lists.{match_lists}
+use Rattle.vt_cli.specs.Running.{Ground, IsRun}
 use Rattle.vt_cli.specs.declared.command.Task.{Task}
-use Rattle.vt_cli.specs.declared.command.Task.TheVariants.{Show, Matches}
+use Rattle.vt_cli.specs.declared.command.Task.TheVariants.{Show, Matches, Run}
 use Rattle.vt_cli.specs.declared.ending.Role.{Role}
 use Rattle.vt_cli.specs.declared.ending.Role.TheVariants as role
 use Rattle.vt_cli.specs.declared.ending.Ending.TheVariants.{Done, Usage}
@@ -76,15 +79,37 @@ pub record IsRefused (l : Loaded) (bytes : List ℕ) (outcome : Outcome) : Type 
   pub stands : IsFaultOf l.meta bytes fault
   pub is : refused_queries fault ≡ Some outcome
 
+-- the load and the replies to a script
+pub record IsTold (l : Loaded) (program : Program) (lines : List Line) (outcome : Outcome) : Type 0 where
+  pub text : List ℕ
+  pub run : IsRun (record { meta = l.meta; program = program }) l.model lines text
+  pub is : outcome ≡ done text
+
 -- what comes first, or what is due to the rest
 abbrev pub IsDueTo : {A : Type 0} → Result A Outcome → (A → Outcome → Type 0) → Outcome → Type 0
 IsDueTo (Err first) rest outcome = outcome ≡ first
 IsDueTo (Ok x) rest outcome = rest x outcome
 
+-- the rules are judged before the script
+abbrev pub IsDueToRules : Option Outcome → (Outcome → Type 0) → Outcome → Type 0
+IsDueToRules (Some first) rest outcome = outcome ≡ first
+IsDueToRules None rest outcome = rest outcome
+
+abbrev pub IsDueToProgram : Loaded → List (Role × List ℕ) → Program → Outcome → Type 0
+IsDueToProgram l texts program outcome = IsDueToRules (refused_rules (text_of role.Rules texts))
+    (λ o. IsDueTo (refused_script (script_of (text_of role.Script texts))) (λ lines due. IsTold l program lines due) o) outcome
+
+-- the program that the query file's bytes spell, and the run of a script over it
+pub record IsRunOf (l : Loaded) (texts : List (Role × List ℕ)) (outcome : Outcome) : Type 0 where
+  pub program : Program
+  pub accepts : Accepts l.meta (text_of role.Queries texts) program
+  pub due : IsDueToProgram l texts program outcome
+
 -- what a command makes of a model and its other texts: each command has a line
 abbrev pub IsDueToModel : Task → Loaded → List (Role × List ℕ) → Outcome → Type 0
 IsDueToModel Show l texts outcome = outcome ≡ shown l
 IsDueToModel Matches l texts outcome = IsMatched l (text_of role.Queries texts) outcome ⊎ IsRefused l (text_of role.Queries texts) outcome
+IsDueToModel Run l texts outcome = IsRunOf l texts outcome ⊎ IsRefused l (text_of role.Queries texts) outcome
 
 -- the model is judged before the texts that are about it
 abbrev pub IsDueToTexts : Task → List (Role × List ℕ) → Outcome → Type 0

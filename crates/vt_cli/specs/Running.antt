@@ -1,5 +1,5 @@
 -- The run of a script: the states that its commands lead through, and the text that is due.
-use Rattle.std.specs.Prelude.{◌≡◌, ℕ, ◌+◌, List, [], ◌∷◌, ◌++◌, codes, decimal, Option, Some, None, Result, Ok, Err}
+use Rattle.std.specs.Prelude.{◌≡◌, List, [], ◌∷◌, ◌++◌, codes, decimal, Option, Some, None, Result, Ok, Err}
 use Rattle.vt_base.specs.declared.value.Value.{Value}
 use Rattle.vt_model.specs.Metamodel.{Metamodel, enum_names}
 use Rattle.vt_model.specs.Model.{Model}
@@ -15,17 +15,6 @@ use Rattle.vt_session.specs.Session.{table_in}
 use Rattle.vt_script.specs.declared.line.Line.{Line}
 use Rattle.vt_script.specs.declared.line.Line.TheVariants as line
 use Rattle.vt_cli.specs.Replies.{Names, told, denial_text, load_line, AreEventTexts, matches_text}
-
--- ---- commands that aren't built yet
-
--- the first of them, where the first of all has this number
-abbrev pub unbuilt : ℕ → List Line → Option ℕ
-unbuilt n [] = None
-unbuilt n (line.Fire agenda k ∷ lines) = Some n
-unbuilt n (line.Swap agenda kind ∷ lines) = Some n
-unbuilt n (line.Activations agenda ∷ lines) = Some n
-unbuilt n (line.Group pattern column rest ∷ lines) = Some n
-unbuilt n (other ∷ lines) = unbuilt (n + 1) lines
 
 -- ---- one command
 
