@@ -92,9 +92,9 @@ refused_queries query.NoMemory = None
 -- ---- rules
 
 -- no rule is read yet: a file with a byte in it is refused
-abbrev pub refused_rules : List ℕ → Option Outcome
-refused_rules [] = None
-refused_rules bytes = Some (refused role.Rules 90 (codes "NotBuilt") 0)
+abbrev pub refused_rules : List ℕ → Result (Unit {0}) Outcome
+refused_rules [] = Ok tt
+refused_rules bytes = Err (refused role.Rules 90 (codes "NotBuilt") 0)
 
 -- ---- scripts
 
@@ -114,4 +114,4 @@ built_of lines (Some n) = Err (unbuilt_command n)
 -- the commands of a script, or the outcome of its first fault
 abbrev pub refused_script : Result (List Line) script.Fault → Result (List Line) Outcome
 refused_script (Err fault) = Err (script_fault fault)
-refused_script (Ok lines) = built_of lines (unbuilt 1 lines)
+refused_script (Ok lines) = built_of lines (unbuilt lines)

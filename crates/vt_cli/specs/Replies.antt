@@ -1,11 +1,12 @@
 -- The texts of a run: what is told of each command of a script.
-use Rattle.std.specs.Prelude.{◌≡◌, ℕ, List, [], ◌∷◌, ◌++◌, zip, flat_map, length, codes, decimal, if◌then◌else◌}
+use Rattle.std.specs.Prelude.{◌≡◌, ◌⊎◌, ℕ, List, [], ◌∷◌, ◌++◌, ◌&&◌, Bool, true, false, not, flat_map, length, codes, decimal, if◌then◌else◌}
 use Rattle.vt_base.specs.Names.{EnumNames, ObjectName}
-use Rattle.vt_base.specs.Rows.{has_row, IsSetOf}
+use Rattle.vt_base.specs.Rows.{has_row}
 use Rattle.vt_base.specs.Written.{tuple_text}
 use Rattle.vt_base.specs.declared.value.Value.{Value}
 use Rattle.vt_query.specs.declared.program.Pattern.{Pattern}
-use Rattle.vt_history.specs.declared.report.PatternEvents.{PatternEvents}
+use Rattle.vt_model.specs.Model.{Model}
+use Rattle.vt_history.specs.Events.{AreThose, IsCreated, IsDeleted, IsUpdated}
 use Rattle.vt_session.specs.Buffers.{Denial, already_open, too_many_open, not_open, too_many_changes, refused}
 use Rattle.vt_cli.specs.Refusals.{refusal_name}
 use Rattle.vt_cli.specs.Lists.{match_line}
@@ -32,30 +33,37 @@ denial_text (refused stop) = codes "refused at " ++ decimal stop.at ++ codes " "
 
 -- ---- events
 
--- what came, what went, or else what was updated
-abbrev pub event_mark : PatternEvents → List Value → List ℕ
-event_mark events row =
-    if has_row events.added.items row then codes "+ "
-    else if has_row events.removed.items row then codes "- "
+-- something happened to a tuple of a pattern
+abbrev pub HasEvent : Model → Model → List (List Value) → List (List Value) → List Value → Type 0
+HasEvent before after old new row = IsCreated old new row ⊎ IsDeleted old new row ⊎ IsUpdated before after old new row
+
+-- it came, it went, or else it was updated
+abbrev pub event_mark : List (List Value) → List (List Value) → List Value → List ℕ
+event_mark old new row =
+    if has_row new row && not (has_row old row) then codes "+ "
+    else if has_row old row && not (has_row new row) then codes "- "
     else codes "~ "
 
-abbrev pub event_line : Names → Pattern → PatternEvents → List Value → List ℕ
-event_line names p events row = codes "  " ++ event_mark events row ++ p.name ++ tuple_text names.enums names.objects row ++ codes "\n"
+abbrev pub event_line : Names → Pattern → List (List Value) → List (List Value) → List Value → List ℕ
+event_line names p old new row = codes "  " ++ event_mark old new row ++ p.name ++ tuple_text names.enums names.objects row ++ codes "\n"
 
--- the tuples of a pattern's events in their order, each on a line
-pub record IsEventText (names : Names) (p : Pattern) (events : PatternEvents) (text : List ℕ) : Type 0 where
+-- the tuples that something happened to, in their order, each on a line
+pub record IsEventText (names : Names) (p : Pattern) (before after : Model) (old new : List (List Value)) (text : List ℕ) : Type 0 where
   pub rows : List (List Value)
-  pub set : IsSetOf (events.added.items ++ events.removed.items ++ events.updated.items) rows
-  pub is : text ≡ flat_map (event_line names p events) rows
+  pub those : AreThose (HasEvent before after old new) rows
+  pub is : text ≡ flat_map (event_line names p old new) rows
 
--- those of each pattern in its order; nothing is told of a private one
-abbrev pub IsShown : Names → Pattern → PatternEvents → List ℕ → Type 0
-IsShown names p events text = if p.shown then IsEventText names p events text else text ≡ []
+-- nothing is told of a private pattern
+abbrev pub WhereShown : Bool → (List ℕ → Type 0) → List ℕ → Type 0
+WhereShown true Is text = Is text
+WhereShown false Is text = text ≡ []
 
-abbrev pub AreEventTexts : Names → List Pattern → List PatternEvents → List ℕ → Type 0
-AreEventTexts names (p ∷ patterns) (e ∷ events) text = (first rest : List ℕ)
-    × IsShown names p e first × AreEventTexts names patterns events rest × (text ≡ first ++ rest)
-AreEventTexts names patterns events text = text ≡ []
+-- the events of each pattern in its order, over its tables before and after a step
+abbrev pub AreEventTexts : Names → Model → Model → List Pattern → List (List (List Value)) → List (List (List Value)) → List ℕ → Type 0
+AreEventTexts names before after (p ∷ patterns) (old ∷ olds) (new ∷ news) text = (first rest : List ℕ)
+    × WhereShown p.shown (IsEventText names p before after old new) first
+    × AreEventTexts names before after patterns olds news rest × (text ≡ first ++ rest)
+AreEventTexts names before after patterns olds news text = text ≡ []
 
 -- ---- match lists
 

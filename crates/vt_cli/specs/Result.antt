@@ -67,18 +67,6 @@ pub record IsListed (l : Loaded) (program : Program) (outcome : Outcome) : Type 
   pub stand : StandFor l.meta l.model program tables
   pub is : outcome ≡ done (match_lists (enum_names l.meta) (all_names l.model) program.patterns tables)
 
--- those of the program that the bytes of a query file spell
-pub record IsMatched (l : Loaded) (bytes : List ℕ) (outcome : Outcome) : Type 0 where
-  pub program : Program
-  pub accepts : Accepts l.meta bytes program
-  pub listed : IsListed l program outcome
-
--- or the line that tells the query file's first fault
-pub record IsRefused (l : Loaded) (bytes : List ℕ) (outcome : Outcome) : Type 0 where
-  pub fault : QueryFault
-  pub stands : IsFaultOf l.meta bytes fault
-  pub is : refused_queries fault ≡ Some outcome
-
 -- the load and the replies to a script
 pub record IsTold (l : Loaded) (program : Program) (lines : List Line) (outcome : Outcome) : Type 0 where
   pub text : List ℕ
@@ -91,25 +79,32 @@ IsDueTo (Err first) rest outcome = outcome ≡ first
 IsDueTo (Ok x) rest outcome = rest x outcome
 
 -- the rules are judged before the script
-abbrev pub IsDueToRules : Option Outcome → (Outcome → Type 0) → Outcome → Type 0
-IsDueToRules (Some first) rest outcome = outcome ≡ first
-IsDueToRules None rest outcome = rest outcome
+abbrev pub IsRunOf : Loaded → List (Role × List ℕ) → Program → Outcome → Type 0
+IsRunOf l texts program outcome =
+    IsDueTo (refused_rules (text_of role.Rules texts))
+    (λ rules o. IsDueTo (refused_script (script_of (text_of role.Script texts))) (λ lines due. IsTold l program lines due) o) outcome
 
-abbrev pub IsDueToProgram : Loaded → List (Role × List ℕ) → Program → Outcome → Type 0
-IsDueToProgram l texts program outcome = IsDueToRules (refused_rules (text_of role.Rules texts))
-    (λ o. IsDueTo (refused_script (script_of (text_of role.Script texts))) (λ lines due. IsTold l program lines due) o) outcome
-
--- the program that the query file's bytes spell, and the run of a script over it
-pub record IsRunOf (l : Loaded) (texts : List (Role × List ℕ)) (outcome : Outcome) : Type 0 where
+-- what is due to the program that the bytes of a query file spell
+pub record IsOfProgram (l : Loaded) (bytes : List ℕ) (due_to : Program → Outcome → Type 0) (outcome : Outcome) : Type 0 where
   pub program : Program
-  pub accepts : Accepts l.meta (text_of role.Queries texts) program
-  pub due : IsDueToProgram l texts program outcome
+  pub accepts : Accepts l.meta bytes program
+  pub due : due_to program outcome
+
+-- the line that tells the file's first fault
+pub record IsRefused (l : Loaded) (bytes : List ℕ) (outcome : Outcome) : Type 0 where
+  pub fault : QueryFault
+  pub stands : IsFaultOf l.meta bytes fault
+  pub is : refused_queries fault ≡ Some outcome
+
+-- the queries are judged before what is about them
+abbrev pub IsDueToQueries : Loaded → List ℕ → (Program → Outcome → Type 0) → Outcome → Type 0
+IsDueToQueries l bytes due_to outcome = IsOfProgram l bytes due_to outcome ⊎ IsRefused l bytes outcome
 
 -- what a command makes of a model and its other texts: each command has a line
 abbrev pub IsDueToModel : Task → Loaded → List (Role × List ℕ) → Outcome → Type 0
 IsDueToModel Show l texts outcome = outcome ≡ shown l
-IsDueToModel Matches l texts outcome = IsMatched l (text_of role.Queries texts) outcome ⊎ IsRefused l (text_of role.Queries texts) outcome
-IsDueToModel Run l texts outcome = IsRunOf l texts outcome ⊎ IsRefused l (text_of role.Queries texts) outcome
+IsDueToModel Matches l texts outcome = IsDueToQueries l (text_of role.Queries texts) (IsListed l) outcome
+IsDueToModel Run l texts outcome = IsDueToQueries l (text_of role.Queries texts) (IsRunOf l texts) outcome
 
 -- the model is judged before the texts that are about it
 abbrev pub IsDueToTexts : Task → List (Role × List ℕ) → Outcome → Type 0

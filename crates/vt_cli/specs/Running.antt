@@ -1,5 +1,5 @@
 -- The run of a script: the states that its commands lead through, and the text that is due.
-use Rattle.std.specs.Prelude.{◌≡◌, List, [], ◌∷◌, ◌++◌, codes, decimal, Option, Some, None, Result, Ok, Err}
+use Rattle.std.specs.Prelude.{◌≡◌, ℕ, List, [], ◌∷◌, ◌++◌, length, codes, decimal, Option, Some, None, Result, Ok, Err}
 use Rattle.vt_base.specs.declared.value.Value.{Value}
 use Rattle.vt_model.specs.Metamodel.{Metamodel, enum_names}
 use Rattle.vt_model.specs.Model.{Model}
@@ -7,8 +7,6 @@ use Rattle.vt_graph.specs.Asked.{all_names}
 use Rattle.vt_query.specs.declared.program.Program.{Program}
 use Rattle.vt_model_json.specs.Dump.{dump}
 use Rattle.vt_history.specs.History.{commit, Step, model_after, tables_after}
-use Rattle.vt_history.specs.Report.{Reports}
-use Rattle.vt_history.specs.declared.report.StepReport.{StepReport}
 use Rattle.vt_session.specs.Buffers.{Buffer, Denial, not_open, refused, begun, changed, aborted}
 use Rattle.vt_session.specs.Run.{State, IsStart, IsStep, committed, without, after_step}
 use Rattle.vt_session.specs.Session.{table_in}
@@ -32,16 +30,14 @@ abbrev pub BufferReply : List ℕ → List ℕ → Result (List Buffer) Denial �
 BufferReply word client (Ok open) state after text = (after ≡ record state { open = open }) × (text ≡ told word client (codes "ok"))
 BufferReply word client (Err denial) state after text = (after ≡ state) × (text ≡ told word client (denial_text denial))
 
--- a step, with its events
+-- a step, with its events; steps count from 0
 pub record StepReply (on : Ground) (client : List ℕ) (g : Model) (state after : State) (text : List ℕ) : Type 0 where
   pub step : Step
   pub is : IsStep on.meta on.program (commit client) g step
-  pub report : StepReport
-  pub reports : Reports step state.steps report
   pub leads : after ≡ after_step client step state
   pub events : List ℕ
-  pub told_by : AreEventTexts (names_at on after) on.program.patterns report.events events
-  pub says : text ≡ told (codes "commit") client (codes "step " ++ decimal report.step) ++ events
+  pub of : AreEventTexts (names_at on after) (model_after state.steps) g on.program.patterns (tables_after state.steps) step.tables events
+  pub says : text ≡ told (codes "commit") client (codes "step " ++ decimal (length state.steps)) ++ events
 
 -- a refused transaction ends its buffer
 abbrev pub after_denial : Denial → List ℕ → State → State

@@ -1,13 +1,15 @@
 -- Commands that aren't built yet: those about agendas, and groups.
-use Rattle.std.specs.Prelude.{ℕ, ◌+◌, List, [], ◌∷◌, Option, Some, None}
+use Rattle.std.specs.Prelude.{ℕ, ◌+◌, List, Bool, true, false, position, Option, option_map}
 use Rattle.vt_script.specs.declared.line.Line.{Line}
 use Rattle.vt_script.specs.declared.line.Line.TheVariants as line
 
--- the first of them, where the first of all commands has this number
-abbrev pub unbuilt : ℕ → List Line → Option ℕ
-unbuilt n [] = None
-unbuilt n (line.Fire agenda k ∷ lines) = Some n
-unbuilt n (line.Swap agenda kind ∷ lines) = Some n
-unbuilt n (line.Activations agenda ∷ lines) = Some n
-unbuilt n (line.Group pattern column rest ∷ lines) = Some n
-unbuilt n (other ∷ lines) = unbuilt (n + 1) lines
+abbrev pub is_unbuilt : Line → Bool
+is_unbuilt (line.Fire agenda n) = true
+is_unbuilt (line.Swap agenda kind) = true
+is_unbuilt (line.Activations agenda) = true
+is_unbuilt (line.Group pattern column rest) = true
+is_unbuilt other = false
+
+-- the first of them: commands count from 1
+abbrev pub unbuilt : List Line → Option ℕ
+unbuilt lines = option_map (λ i. i + 1) (position is_unbuilt lines)
