@@ -2,3 +2,11 @@ pub mod AnswerLemmas
 mod DueLemmas
 pub mod FetchLemmas
 pub mod NamedLemmas
+pub mod EventLemmas
+pub mod SomeEventLemmas
+pub mod StepNameLemmas
+pub mod ReachLemmas
+pub mod PutLemmas
+pub mod HeldLemmas
+pub mod ReplyLemmas
+pub mod RunLemmas
