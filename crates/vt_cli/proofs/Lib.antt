@@ -1,4 +1,5 @@
 pub mod AnswerLemmas
+mod OneTextLemmas
 mod DueLemmas
 pub mod FetchLemmas
 pub mod NamedLemmas
