@@ -7,7 +7,7 @@ use Rattle.std.proofs.lemmas.List.Folds.{list_any-append}
 use Rattle.std.proofs.lemmas.Map.Made.{is_member-filter}
 use Rattle.vt_facts.proofs.BoolLemmas.{or-false}
 use Rattle.vt_base.specs.Order.{tuple_cmp}
-use Rattle.vt_base.specs.Rows.{Ascends, has_row}
+use Rattle.vt_base.specs.Rows.{Ascends, has_row, IsSetOf}
 use Rattle.vt_base.specs.Written.{tuple_text}
 use Rattle.vt_base.specs.Inside.OrderLaws.{IsTotalOrder-tuple_cmp}
 use Rattle.vt_base.specs.declared.numbers.PatternId.{PatternId}
@@ -75,6 +75,21 @@ has-filter p rows row =
     is_member-filter (eq_by_cmp_equiv IsTotalOrder-tuple_cmp) p row
     (λ r same. ap p ((eq_by_cmp-Decides IsTotalOrder-tuple_cmp exact-tuple_cmp row r).0 same)) rows
 
+-- ---- the set of what happened
+
+-- a tuple of the set stands in what happened
+has-event_rows : (e : PatternEvents) (row : List Value) → has_row (event_rows e) row ≡ has_row (happened e) row
+has-event_rows e row = has-inserted (happened e) [] row ∙ or-false (has_row (happened e) row)
+
+Ascends-event_rows : (e : PatternEvents) → Ascends (event_rows e)
+Ascends-event_rows e = Ascends-inserted (happened e) [] (ascends-none tuple_cmp)
+
+-- a set of what happened is the set
+pub event_rows_set : (e : PatternEvents) (given rows : List (List Value)) → given ≡ happened e → IsSetOf given rows → rows ≡ event_rows e
+event_rows_set e given rows is set =
+    same_list tuple_cmp IsTotalOrder-tuple_cmp exact-tuple_cmp rows (event_rows e) set.ascends (Ascends-event_rows e)
+    (λ row. set.same row ∙ ap (λ g. has_row g row) is ∙ sym (has-event_rows e row))
+
 -- ---- a tuple's mark
 
 test_came : (a o n : Bool) → (a ≡ true → (o ≡ false) × (n ≡ true)) → ((o ≡ false) × (n ≡ true) → a ≡ true) → a ≡ (n && not o)
@@ -134,16 +149,12 @@ module _ (before after : Model) (old new : List (List Value)) (e : PatternEvents
     ]
   ]
 
-  -- a tuple of the set stands in what happened
-  pub has-event_rows : (row : List Value) → has_row (event_rows e) row ≡ has_row (happened e) row
-  has-event_rows row = has-inserted (happened e) [] row ∙ or-false (has_row (happened e) row)
-
   those-event_rows : AreThose (HasEvent before after old new) (event_rows e)
   those-event_rows = record {
-    ascend = Ascends-inserted (happened e) [] (ascends-none tuple_cmp);
+    ascend = Ascends-event_rows e;
     each = λ row. (
-      (λ h. happened-HasEvent row (sym (has-event_rows row) ∙ h)),
-      (λ h. has-event_rows row ∙ HasEvent-happened row h),
+      (λ h. happened-HasEvent row (sym (has-event_rows e row) ∙ h)),
+      (λ h. has-event_rows e row ∙ HasEvent-happened row h),
     );
   }
 

@@ -7,7 +7,7 @@ ghost use Rattle.vt_base.specs.Names.{AreNamed};
 
 use crate::replies::told;
 use std::alloc::Global;
-use vt_base::{List, Names, NoMemory, Plain, Rows, Text, Tuple, a_list_has_one_set, write_tuple};
+use vt_base::{List, Names, NoMemory, Plain, Rows, Text, Tuple, write_tuple};
 use vt_history::{PatternEvents, StepReport};
 use vt_query::Pattern;
 
@@ -22,10 +22,10 @@ fn add_rows(alloc: Global, rows: &Rows, out: &mut List<Tuple>) -> Result<(), NoM
 }
 
 // The tuples that something happened to, in one order.
+#[tactic(auto, using(crate::proofs::EventLemmas::event_rows_set))]
 fn event_rows(alloc: Global, events: &PatternEvents) -> Result<Rows, NoMemory>
     ensures { IfOk result (λ rows. rows.items ≡ event_rows events.now) }
 {
-    a_list_has_one_set();
     let mut all = List::new(alloc);
     add_rows(alloc, &events.added, &mut all)?;
     add_rows(alloc, &events.removed, &mut all)?;

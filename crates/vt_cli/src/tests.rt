@@ -14,7 +14,7 @@ mod documents;
 mod faults;
 mod matches;
 mod replies;
-mod run;
+mod runs;
 mod show;
 
 // One class: its objects have a number `w`, and lead to others by `to`.

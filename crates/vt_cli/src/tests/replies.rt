@@ -1,8 +1,8 @@
 // Scripts over the library, each with its replies.
-use super::run::{HOLDS, assert_replies};
+use super::runs::{HOLDS, assert_replies};
 use std::test::Fail;
 
-const MOVED_BOOK: &str = "begin c
+pub(super) const MOVED_BOOK: &str = "begin c
 change c link x shelf b
 commit c
 begin c

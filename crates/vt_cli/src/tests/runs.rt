@@ -1,4 +1,5 @@
 // Runs that end early: rules and scripts that are refused, limits, and devices that fail.
+use super::replies::MOVED_BOOK;
 use super::{LIBRARY, answer, shelf_of, word_list};
 use std::alloc::Global;
 use std::process::Abort;
@@ -14,7 +15,8 @@ const BOOKS: &str = concat!(
 
 pub(super) const HOLDS: &str = "pattern holds(s: Shelf, b: Book) { Shelf.books(s, b); }";
 
-// How a run over the library ends, and what it writes.
+// A run over the library.
+#[derive(Clone, Copy)]
 struct Case<'a> {
     queries: &'a str,
     rules: &'a str,
@@ -22,6 +24,7 @@ struct Case<'a> {
     failing: &'a [u64],
 }
 
+// How it ends, and what it writes.
 fn run_case(alloc: Global, case: &Case<'_>) -> Result<(u8, String), Fail> {
     let words = word_list(
         alloc,
