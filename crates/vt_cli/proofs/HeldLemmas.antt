@@ -1,11 +1,12 @@
 -- What the changes of open buffers give can be held, whatever is done to the buffers.
 use Rattle.std.proofs.Common.{◌≡◌, List, [], ◌∷◌, ◌++◌, Bool, true, false, not, cond, Option, Some, None, Result, Ok, Err, refl, sym, ap, subst, ◌∙◌}
-use Rattle.std.specs.Prelude.{filter, map, find, is_some, nat_le, length, if◌then◌else◌}
+use Rattle.std.specs.Prelude.{filter, map, find, is_some, nat_le, ◌==◌, length, if◌then◌else◌}
 use Rattle.std.specs.List.{AllByRecursion}
 use Rattle.vt_facts.specs.Names.{is_name}
 use Rattle.vt_model.specs.Storable.{GivesStorable}
 use Rattle.vt_model.specs.declared.change.Change.{Change}
-use Rattle.vt_session.specs.Buffers.{Buffer, Denial, already_open, too_many_open, not_open, too_many_changes, buffer_of, without_buffer, with_change, begun, changed_in, changed, aborted}
+use Rattle.vt_session.specs.declared.buffers.Buffer.{Buffer}
+use Rattle.vt_session.specs.Buffers.{Denial, already_open, too_many_open, not_open, too_many_changes, buffer_of, without_buffer, with_change, begun, changed_in, changed, aborted}
 use Rattle.vt_cli.specs.Inside.Begun.{AreHeld}
 
 -- ---- AllByRecursion
@@ -60,7 +61,7 @@ held-with_change client change open storable held =
 
 changed_is : (client : List ℕ) (change : Change) (open after : List Buffer) (found : Option Buffer) → changed_in client change open found ≡ Ok after → with_change client change open ≡ after
 changed_is client change open after None e = absurd (let none : ⊥ = cc in none)
-changed_is client change open after (Some b) e = full (nat_le 65536 (length b.changes)) e
+changed_is client change open after (Some b) e = full (length b.changes == 65536) e
   where
     full : (t : Bool) → the (Result (List Buffer) Denial) (if t then Err too_many_changes else Ok (with_change client change open)) ≡ Ok after → with_change client change open ≡ after
     full true e = absurd (let none : ⊥ = cc in none)

@@ -8,6 +8,7 @@ pub mod SomeEventLemmas
 pub mod StepNameLemmas
 pub mod ReachLemmas
 pub mod PutLemmas
+pub mod FewLemmas
 pub mod HeldLemmas
 pub mod ReplyLemmas
 pub mod RunLemmas

@@ -5,13 +5,13 @@ use Rattle.vt_base.specs.declared.value.Value.{Value}
 use Rattle.vt_model.specs.Model.{Model}
 use Rattle.vt_query.specs.Tables.{StandFor}
 use Rattle.vt_history.specs.History.{Cause, Step, load, commit, model_after, tables_after}
-use Rattle.vt_session.specs.Buffers.{Buffer, Denial, begun, changed, aborted}
+use Rattle.vt_session.specs.declared.buffers.Buffer.{Buffer}
+use Rattle.vt_session.specs.Buffers.{Denial, begun, changed, aborted}
 use Rattle.vt_session.specs.Run.{State, IsStep, IsStart, committed, after_step}
-use Rattle.vt_session.specs.Session.{table_in}
 use Rattle.vt_script.specs.declared.line.Line.{Line}
 use Rattle.vt_script.specs.declared.line.Line.TheVariants as line
 use Rattle.vt_cli.specs.Replies.{told, load_line, AreEventTexts}
-use Rattle.vt_cli.specs.Running.{Ground, names_at, BufferReply, StepReply, CommitReply, MatchesReply, Replied, Answered, IsRun}
+use Rattle.vt_cli.specs.Running.{Ground, names_at, BufferReply, StepReply, CommitReply, table_named, MatchesReply, Replied, Answered, IsRun}
 use Rattle.vt_cli.proofs.EventLemmas.{one_events}
 
 module _ (on : Ground)
@@ -53,12 +53,12 @@ module _ (on : Ground)
   one_matches state pattern (Some rows) text too a b = a ∙ sym b
 
   one_reply : (l : Line) (state : State) → AreOne (Replied on l state)
-  one_reply (line.Begin client) state after other text too a b = one_buffer (codes "begin") client (begun client state.open) state after other text too a b
-  one_reply (line.Change client change) state after other text too a b = one_buffer (codes "change") client (changed client change state.open) state after other text too a b
-  one_reply (line.Abort client) state after other text too a b = one_buffer (codes "abort") client (aborted client state.open) state after other text too a b
+  one_reply (line.Begin client) state after other text too a b = one_buffer (codes "begin") client (begun client state.buffers) state after other text too a b
+  one_reply (line.Change client change) state after other text too a b = one_buffer (codes "change") client (changed client change state.buffers) state after other text too a b
+  one_reply (line.Abort client) state after other text too a b = one_buffer (codes "abort") client (aborted client state.buffers) state after other text too a b
   one_reply (line.Commit client) state after other text too a b = one_commit client (committed on.meta client state) state after other text too a b
   one_reply (line.Matches pattern) state after other text too a b =
-      (a.0 ∙ sym b.0, one_matches state pattern (table_in on.program (tables_after state.steps) pattern) text too a.1 b.1)
+      (a.0 ∙ sym b.0, one_matches state pattern (table_named on.program (tables_after state.steps) pattern) text too a.1 b.1)
   one_reply line.Dump state after other text too a b = (a.0 ∙ sym b.0, a.1 ∙ sym b.1)
   one_reply (line.Fire agenda n) state after other text too a b = absurd a
   one_reply (line.Swap agenda kind) state after other text too a b = absurd a
@@ -77,6 +77,6 @@ module _ (on : Ground)
   pub one_text : (g : Model) (lines : List Line) (text too : List ℕ) → IsRun on g lines text → IsRun on g lines too → text ≡ too
   one_text g lines text too a b =
       let step : a.starts.step ≡ b.starts.step = same_step load g a.starts.step b.starts.step a.starts.loads b.starts.loads in
-      let start : a.start ≡ b.start = a.starts.is ∙ ap (λ (s : Step). record { steps = s ∷ []; open = [] }) step ∙ sym b.starts.is in
+      let start : a.start ≡ b.start = a.starts.is ∙ ap (λ (s : Step). record { steps = s ∷ []; buffers = [] }) step ∙ sym b.starts.is in
       let replies = one_answer lines a.start a.replies b.replies a.answered (subst (λ s. Answered on lines s b.replies) (sym start) b.answered) in
       a.is ∙ ap (λ x. load_line ++ x) replies ∙ sym b.is

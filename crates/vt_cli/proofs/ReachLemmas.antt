@@ -15,14 +15,15 @@ use Rattle.vt_query.specs.declared.program.Program.{Program}
 use Rattle.vt_graph.specs.Asked.{all_names}
 use Rattle.vt_model_json.specs.Dump.{dump}
 use Rattle.vt_history.specs.History.{commit, Step, IsHistory, model_after, tables_after}
-use Rattle.vt_session.specs.Buffers.{Buffer, Denial, already_open, too_many_open, not_open, too_many_changes, refused, begun, changed, aborted}
+use Rattle.vt_session.specs.declared.buffers.Buffer.{Buffer}
+use Rattle.vt_session.specs.Buffers.{Denial, already_open, too_many_open, not_open, too_many_changes, refused, begun, changed, aborted}
 use Rattle.vt_session.specs.Run.{State, committed, without, after_step}
-use Rattle.vt_session.specs.Session.{Kept, StandsFor, table_in}
+use Rattle.vt_session.specs.Session.{Kept, StandsFor}
 use Rattle.vt_script.specs.declared.line.Line.{Line}
 use Rattle.vt_script.specs.declared.line.Line.TheVariants as line
 use Rattle.vt_cli.specs.Unbuilt.{is_unbuilt}
 use Rattle.vt_cli.specs.Replies.{told, denial_text, matches_text, AreEventTexts}
-use Rattle.vt_cli.specs.Running.{Ground, names_at, BufferReply, StepReply, CommitReply, after_denial, MatchesReply, Replied, Answered}
+use Rattle.vt_cli.specs.Running.{Ground, names_at, BufferReply, StepReply, CommitReply, after_denial, table_named, MatchesReply, Replied, Answered}
 use Rattle.vt_cli.specs.Inside.Begun.{ground_of, IsAt, AreBuilt}
 use Rattle.vt_cli.proofs.SomeEventLemmas.{AllAscend, some_events}
 
@@ -63,7 +64,7 @@ module _ (on : Ground) (narrow : IsNarrow (counts_of on.meta) on.program)
         → (tables : List (List (List Value))) × StandFor meta g program tables) where
   buffer_reply : (word client : List ℕ) (due : Result (List Buffer) Denial) (state : State) → IsTabled on state
       → (after : State) × (text : List ℕ) × BufferReply word client due state after text × IsTabled on after
-  buffer_reply word client (Ok open) state tabled = (record state { open = open }, told word client (codes "ok"), (refl, refl), tabled)
+  buffer_reply word client (Ok buffers) state tabled = (record state { buffers = buffers }, told word client (codes "ok"), (refl, refl), tabled)
   buffer_reply word client (Err denial) state tabled = (state, told word client (denial_text denial), (refl, refl), tabled)
 
   tabled_denied : (denial : Denial) (client : List ℕ) (state : State) → IsTabled on state → IsTabled on (after_denial denial client state)
@@ -102,12 +103,12 @@ module _ (on : Ground) (narrow : IsNarrow (counts_of on.meta) on.program)
 
   line_reply : (l : Line) (state : State) → is_unbuilt l ≡ false → IsTabled on state
       → (after : State) × (text : List ℕ) × Replied on l state after text × IsTabled on after
-  line_reply (line.Begin client) state built tabled = buffer_reply (codes "begin") client (begun client state.open) state tabled
-  line_reply (line.Change client change) state built tabled = buffer_reply (codes "change") client (changed client change state.open) state tabled
-  line_reply (line.Abort client) state built tabled = buffer_reply (codes "abort") client (aborted client state.open) state tabled
+  line_reply (line.Begin client) state built tabled = buffer_reply (codes "begin") client (begun client state.buffers) state tabled
+  line_reply (line.Change client change) state built tabled = buffer_reply (codes "change") client (changed client change state.buffers) state tabled
+  line_reply (line.Abort client) state built tabled = buffer_reply (codes "abort") client (aborted client state.buffers) state tabled
   line_reply (line.Commit client) state built tabled = commit_reply client (committed on.meta client state) state tabled
   line_reply (line.Matches pattern) state built tabled =
-      let reply = matches_reply pattern (table_in on.program (tables_after state.steps) pattern) state in
+      let reply = matches_reply pattern (table_named on.program (tables_after state.steps) pattern) state in
       (state, reply.0, (refl, reply.1), tabled)
   line_reply line.Dump state built tabled = (state, dump on.meta (model_after state.steps) ++ codes "\n", (refl, refl), tabled)
   line_reply (line.Fire agenda n) state built tabled = absurd (let none : ⊥ = cc in none)

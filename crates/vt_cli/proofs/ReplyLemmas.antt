@@ -13,9 +13,10 @@ use Rattle.vt_query.specs.Narrow.{IsNarrow}
 use Rattle.vt_query.specs.declared.program.Program.{Program}
 use Rattle.vt_history.specs.History.{Step, model_after, tables_after}
 use Rattle.vt_history.specs.declared.report.StepReport.{StepReport}
-use Rattle.vt_session.specs.Buffers.{Buffer, Denial, already_open, too_many_open, not_open, too_many_changes, refused, buffer_of}
+use Rattle.vt_session.specs.declared.buffers.Buffer.{Buffer}
+use Rattle.vt_session.specs.Buffers.{Denial, already_open, too_many_open, not_open, too_many_changes, refused, buffer_of}
 use Rattle.vt_session.specs.Run.{State, committed, committed_from, refused_at, without, after_step}
-use Rattle.vt_session.specs.Session.{Kept, StandsFor, IsOfOne, IsFaultOf, IsDenied, Buffers, Commits}
+use Rattle.vt_session.specs.Session.{Kept, StandsFor, IsOfOne, IsFaultOf, IsDenied, HasBuffers, Commits}
 use Rattle.vt_session.specs.declared.fault.SessionFault.{SessionFault}
 use Rattle.vt_session.specs.declared.fault.SessionFault.TheVariants as fault
 use Rattle.vt_query.specs.declared.program.Pattern.{Pattern}
@@ -59,20 +60,20 @@ module _ (old new : Kept) (one : IsOfOne old new) where
       subst (λ (meta : Metamodel). IsNarrow (counts_of meta) new.program) (sym one.meta)
       (subst (IsNarrow (counts_of old.meta)) (sym one.program) narrow)
 
-  pub IsAt-next : (state after : State) → IsAt old state → StandsFor new after → AreHeld after.open → IsAt new after
+  pub IsAt-next : (state after : State) → IsAt old state → StandsFor new after → AreHeld after.buffers → IsAt new after
   IsAt-next state after at stands held = record { narrow = narrow_still at.narrow; stands = stands; held = held }
 
   -- buffers alone
   pub buffers_replied : (due : Result (List Buffer) Denial) (answer : Result (Unit {0}) SessionFault) (word client text : List ℕ) (state : State)
-      → IsAt old state → ((open : List Buffer) → due ≡ Ok open → AreHeld open)
-      → OnOk answer (Buffers due state new) → IfErr answer (λ why. IsDenied why due) → OnErr answer (new ≡ old)
+      → IsAt old state → ((made : List Buffer) → due ≡ Ok made → AreHeld made)
+      → OnOk answer (HasBuffers due state new) → IfErr answer (λ why. IsDenied why due) → OnErr answer (new ≡ old)
       → Tells answer word client text
       → (after : State) × BufferReply word client due state after text × IsAt new after
   buffers_replied due (Ok done) word client text state at held buffers none same tells =
-      let after : State = record state { open = buffers.open } in (
+      let after : State = record state { buffers = buffers.buffers } in (
         after,
         subst (λ d. BufferReply word client d state after text) (sym buffers.is) (refl, tells),
-        IsAt-next state after at buffers.stands (held buffers.open buffers.is),
+        IsAt-next state after at buffers.stands (held buffers.buffers buffers.is),
       )
   buffers_replied due (Err why) word client text state at held buffers d same tells =
       let denial = denied due why word client text d tells in (
@@ -127,7 +128,7 @@ module _ (old new : Kept) (one : IsOfOne old new) where
       let denial = denied (committed old.meta client state) why (codes "commit") client text d says in
       let reply : (after : State) → after ≡ after_denial denial.denial client state → CommitReply (ground_of old) client (committed old.meta client state) state after text =
       λ after is. subst (λ due. CommitReply (ground_of old) client due state after text) (sym denial.is) (is, denial.says) in
-      elim (other_denial (model_after state.steps) old.meta (buffer_of client state.open) denial.denial denial.is) [
+      elim (other_denial (model_after state.steps) old.meta (buffer_of client state.buffers) denial.denial denial.is) [
         | inl is ↦ (
           state,
           reply state (ap (λ x. after_denial x client state) (sym is)),
@@ -137,7 +138,7 @@ module _ (old new : Kept) (one : IsOfOne old new) where
           without client state,
           reply (without client state) (ap (λ x. after_denial x client state) (sym stop.1)),
           (let of = of_refused why denial.denial stop.0 (codes "commit") client text stop.1 denial.of says in
-          IsAt-next state (without client state) at (ended stop.0.at stop.0.why of) (held-without client state.open at.held)),
+          IsAt-next state (without client state) at (ended stop.0.at stop.0.why of) (held-without client state.buffers at.held)),
         )
       ]
 
@@ -175,5 +176,5 @@ module _ (old new : Kept) (one : IsOfOne old new) where
               ∙ ap (λ h. lines (length state.steps) (record { enums = enum_names old.meta; objects = all_names h }) program.patterns) (g_is ∙ commits.stands.model)
               ∙ ap (λ p. lines (length state.steps) (names_at on after) p.patterns) (program_is ∙ one.program);
         }),
-        IsAt-next state after at commits.stands (held-without client state.open at.held),
+        IsAt-next state after at commits.stands (held-without client state.buffers at.held),
       )

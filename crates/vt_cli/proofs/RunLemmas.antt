@@ -13,7 +13,8 @@ use Rattle.vt_query.specs.Narrow.{IsNarrow}
 use Rattle.vt_query.specs.Tables.{StandFor}
 use Rattle.vt_query.specs.declared.program.Program.{Program}
 use Rattle.vt_history.specs.History.{Step}
-use Rattle.vt_session.specs.Buffers.{Buffer, Denial, already_open, too_many_open, not_open, too_many_changes, refused, begun, changed, aborted}
+use Rattle.vt_session.specs.declared.buffers.Buffer.{Buffer}
+use Rattle.vt_session.specs.Buffers.{Denial, already_open, too_many_open, not_open, too_many_changes, refused, begun, changed, aborted}
 use Rattle.vt_session.specs.Run.{State, committed}
 use Rattle.vt_session.specs.Session.{Kept, IsOfOne}
 use Rattle.vt_script.specs.declared.line.Line.{Line}
@@ -45,9 +46,9 @@ one_step on client (Err denial) state after text reply =
     subst (λ (s : State). length s.steps ≤ length state.steps + 1) (sym reply.0) (denied_steps denial client state)
 
 replied_steps : (on : Ground) (l : Line) (state after : State) (text : List ℕ) → Replied on l state after text → length after.steps ≤ length state.steps + 1
-replied_steps on (line.Begin client) state after text reply = same_steps _ client (begun client state.open) state after text reply
-replied_steps on (line.Change client change) state after text reply = same_steps _ client (changed client change state.open) state after text reply
-replied_steps on (line.Abort client) state after text reply = same_steps _ client (aborted client state.open) state after text reply
+replied_steps on (line.Begin client) state after text reply = same_steps _ client (begun client state.buffers) state after text reply
+replied_steps on (line.Change client change) state after text reply = same_steps _ client (changed client change state.buffers) state after text reply
+replied_steps on (line.Abort client) state after text reply = same_steps _ client (aborted client state.buffers) state after text reply
 replied_steps on (line.Commit client) state after text reply = one_step on client (committed on.meta client state) state after text reply
 replied_steps on (line.Matches pattern) state after text reply = subst (λ (s : State). length s.steps ≤ length state.steps + 1) (sym reply.0) (omega arith)
 replied_steps on line.Dump state after text reply = subst (λ (s : State). length s.steps ≤ length state.steps + 1) (sym reply.0) (omega arith)

@@ -1,5 +1,6 @@
 -- The run of a script: the states that its commands lead through, and the text that is due.
-use Rattle.std.specs.Prelude.{◌≡◌, ℕ, List, [], ◌∷◌, ◌++◌, length, codes, decimal, Option, Some, None, Result, Ok, Err}
+use Rattle.std.specs.Prelude.{◌≡◌, ◌&&◌, ℕ, List, [], ◌∷◌, ◌++◌, length, position, slice_get, codes, decimal, option_and_then, Option, Some, None, Result, Ok, Err}
+use Rattle.vt_facts.specs.Names.{is_name}
 use Rattle.vt_base.specs.declared.value.Value.{Value}
 use Rattle.vt_model.specs.Metamodel.{Metamodel, enum_names}
 use Rattle.vt_model.specs.Model.{Model}
@@ -7,9 +8,9 @@ use Rattle.vt_graph.specs.Asked.{all_names}
 use Rattle.vt_query.specs.declared.program.Program.{Program}
 use Rattle.vt_model_json.specs.Dump.{dump}
 use Rattle.vt_history.specs.History.{commit, Step, model_after, tables_after}
-use Rattle.vt_session.specs.Buffers.{Buffer, Denial, not_open, refused, begun, changed, aborted}
+use Rattle.vt_session.specs.declared.buffers.Buffer.{Buffer}
+use Rattle.vt_session.specs.Buffers.{Denial, not_open, refused, begun, changed, aborted}
 use Rattle.vt_session.specs.Run.{State, IsStart, IsStep, committed, without, after_step}
-use Rattle.vt_session.specs.Session.{table_in}
 use Rattle.vt_script.specs.declared.line.Line.{Line}
 use Rattle.vt_script.specs.declared.line.Line.TheVariants as line
 use Rattle.vt_cli.specs.Replies.{Names, told, denial_text, load_line, AreEventTexts, matches_text}
@@ -27,7 +28,7 @@ names_at on state = record { enums = enum_names on.meta; objects = all_names (mo
 
 -- buffers alone change, or the command is refused
 abbrev pub BufferReply : List ℕ → List ℕ → Result (List Buffer) Denial → State → State → List ℕ → Type 0
-BufferReply word client (Ok open) state after text = (after ≡ record state { open = open }) × (text ≡ told word client (codes "ok"))
+BufferReply word client (Ok buffers) state after text = (after ≡ record state { buffers = buffers }) × (text ≡ told word client (codes "ok"))
 BufferReply word client (Err denial) state after text = (after ≡ state) × (text ≡ told word client (denial_text denial))
 
 -- a step, with its events; steps count from 0
@@ -49,18 +50,22 @@ CommitReply on client (Ok g) state after text = StepReply on client g state afte
 CommitReply on client (Err denial) state after text =
     (after ≡ after_denial denial client state) × (text ≡ told (codes "commit") client (denial_text denial))
 
+-- the table of the pattern of this name that isn't private
+abbrev pub table_named : Program → List (List (List Value)) → List ℕ → Option (List (List Value))
+table_named program tables name = option_and_then (slice_get tables) (position (λ p. p.shown && is_name p.name name) program.patterns)
+
 abbrev pub MatchesReply : Names → List ℕ → Option (List (List Value)) → List ℕ → Type 0
 MatchesReply names pattern None text = text ≡ told (codes "matches") pattern (codes "refused UnknownPattern")
 MatchesReply names pattern (Some rows) text = text ≡ matches_text names pattern rows
 
 -- the state after a command, and the text that is due to it
 abbrev pub Replied : Ground → Line → State → State → List ℕ → Type 0
-Replied on (line.Begin client) state after text = BufferReply (codes "begin") client (begun client state.open) state after text
-Replied on (line.Change client change) state after text = BufferReply (codes "change") client (changed client change state.open) state after text
-Replied on (line.Abort client) state after text = BufferReply (codes "abort") client (aborted client state.open) state after text
+Replied on (line.Begin client) state after text = BufferReply (codes "begin") client (begun client state.buffers) state after text
+Replied on (line.Change client change) state after text = BufferReply (codes "change") client (changed client change state.buffers) state after text
+Replied on (line.Abort client) state after text = BufferReply (codes "abort") client (aborted client state.buffers) state after text
 Replied on (line.Commit client) state after text = CommitReply on client (committed on.meta client state) state after text
 Replied on (line.Matches pattern) state after text =
-    (after ≡ state) × MatchesReply (names_at on state) pattern (table_in on.program (tables_after state.steps) pattern) text
+    (after ≡ state) × MatchesReply (names_at on state) pattern (table_named on.program (tables_after state.steps) pattern) text
 Replied on line.Dump state after text = (after ≡ state) × (text ≡ dump on.meta (model_after state.steps) ++ codes "\n")
 Replied on other state after text = ⊥
 

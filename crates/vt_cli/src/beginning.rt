@@ -1,7 +1,8 @@
 // The command `run` before its first reply: its files are judged, and a session begins.
 ghost use Rattle.std.specs.Prelude.{◌≡◌, ◌≤◌, IfOk, IfErr, length, Ok, Err};
 ghost use Rattle.vt_model.specs.Base.{base_of, counts_of};
-ghost use Rattle.vt_model_json.specs.Difference.{IsFromEmpty};
+ghost use Rattle.vt_base.specs.Deltas.{IsNet};
+ghost use Rattle.vt_model.specs.Model.{empty_model};
 ghost use Rattle.vt_query.specs.Narrow.{IsNarrow};
 ghost use Rattle.vt_script.specs.Script.{script_of};
 ghost use Rattle.vt_cli.specs.Texts.{file_limit};
@@ -57,7 +58,8 @@ fn start<L: Ledger>(
     steps: &mut Steps<L>,
 ) -> Result<Prepared, NoMemory>
     requires narrow { IsNarrow (counts_of store.meta) program }
-    requires loaded { IsFromEmpty (base_of store.meta store.model) loaded }
+    requires numbered { length program.patterns ≤ 65536 }
+    requires loaded { IsNet (base_of store.meta empty_model) (base_of store.meta store.model) loaded }
     requires built { AreBuilt lines }
     requires few { length lines ≤ 100000 }
     ensures due { IfOk result (λ prepared. (outcome : Outcome) → ComesTo prepared outcome
@@ -82,7 +84,8 @@ fn over_program<L: Ledger>(
 ) -> Result<Prepared, NoMemory>
     requires small { AreSmall texts.now }
     requires narrow { IsNarrow (counts_of store.meta) program }
-    requires loaded { IsFromEmpty (base_of store.meta store.model) loaded }
+    requires numbered { length program.patterns ≤ 65536 }
+    requires loaded { IsNet (base_of store.meta empty_model) (base_of store.meta store.model) loaded }
     ensures due { IfOk result (λ prepared. (outcome : Outcome) → ComesTo prepared outcome
         → IsRunOf (loaded_of store) texts.now program outcome) }
     ensures suits { IfOk result (λ prepared. (outcome : Outcome) → ComesTo prepared outcome → IsOfFiles outcome.ending) }
@@ -98,6 +101,7 @@ fn over_program<L: Ledger>(
 }
 
 // What the queries and the texts that are about them come to over a model.
+#[tactic(auto, using(crate::proofs::FewLemmas::few_patterns))]
 fn over_model<L: Ledger>(
     alloc: Global,
     store: Store,
@@ -106,7 +110,7 @@ fn over_model<L: Ledger>(
     steps: &mut Steps<L>,
 ) -> Result<Prepared, NoMemory>
     requires small { AreSmall texts.now }
-    requires loaded { IsFromEmpty (base_of store.meta store.model) loaded }
+    requires loaded { IsNet (base_of store.meta empty_model) (base_of store.meta store.model) loaded }
     ensures due { IfOk result (λ prepared. (outcome : Outcome) → ComesTo prepared outcome
         → IsDueToModel task.Run (loaded_of store) texts.now outcome) }
     ensures suits { IfOk result (λ prepared. (outcome : Outcome) → ComesTo prepared outcome → IsOfFiles outcome.ending) }

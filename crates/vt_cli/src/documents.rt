@@ -1,7 +1,8 @@
 // From the bytes of a metamodel and of a model to the model.
 ghost use Rattle.std.specs.Prelude.{◌≡◌, IfOk, IfErr, Ok, Err};
 ghost use Rattle.vt_model.specs.Base.{base_of};
-ghost use Rattle.vt_model_json.specs.Difference.{IsFromEmpty};
+ghost use Rattle.vt_base.specs.Deltas.{IsNet};
+ghost use Rattle.vt_model.specs.Model.{empty_model};
 ghost use Rattle.vt_cli.specs.Result.{metamodel_of, model_of, loaded_from};
 ghost use Rattle.vt_cli.specs.Inside.Prepared.{AreSmall, IsOfFiles};
 ghost use Rattle.vt_cli.specs.Inside.Seen.{loaded_of};
@@ -61,6 +62,7 @@ pub(crate) fn load(
 }
 
 // The model of a metamodel, with what is new in it, or the outcome of its first fault.
+#[tactic(auto, using(crate::proofs::FewLemmas::net_from_empty))]
 fn new_model(
     alloc: Global,
     meta: &Metamodel,
@@ -70,7 +72,7 @@ fn new_model(
     ensures accepted { IfOk result (λ judged. IfOk judged (λ read.
         model_of meta.now bytes.now ≡ Ok read.0.model)) }
     ensures loaded { IfOk result (λ judged. IfOk judged (λ read.
-        IsFromEmpty (base_of read.0.meta read.0.model) read.1)) }
+        IsNet (base_of read.0.meta empty_model) (base_of read.0.meta read.0.model) read.1)) }
     ensures refused { IfOk result (λ judged. IfErr judged (λ outcome.
         model_of meta.now bytes.now ≡ Err outcome)) }
     ensures suits { IfOk result (λ judged. IfErr judged (λ outcome. IsOfFiles outcome.ending)) }
@@ -90,7 +92,7 @@ pub(crate) fn load_new(
     ensures accepted { IfOk result (λ judged. IfOk judged (λ read.
         loaded_from texts.now ≡ Ok (loaded_of read.0))) }
     ensures loaded { IfOk result (λ judged. IfOk judged (λ read.
-        IsFromEmpty (base_of read.0.meta read.0.model) read.1)) }
+        IsNet (base_of read.0.meta empty_model) (base_of read.0.meta read.0.model) read.1)) }
     ensures refused { IfOk result (λ judged. IfErr judged (λ outcome.
         loaded_from texts.now ≡ Err outcome)) }
     ensures suits { IfOk result (λ judged. IfErr judged (λ outcome. IsOfFiles outcome.ending)) }

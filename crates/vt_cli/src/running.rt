@@ -41,7 +41,7 @@ fn change(
 {
     // What a change gives can be held, since it is held.
     change.gives_storable();
-    let answer = session.change(alloc, client, change.share());
+    let answer = session.change(client, change.share());
     replies::answered(alloc, "change", client, answer)
 }
 

@@ -8,7 +8,8 @@ use Rattle.vt_outside.specs.declared.sink.PutFail.TheVariants as put
 use Rattle.vt_model.specs.Base.{counts_of}
 use Rattle.vt_model.specs.Storable.{GivesStorable}
 use Rattle.vt_query.specs.Narrow.{IsNarrow}
-use Rattle.vt_session.specs.Buffers.{Buffer, Denial}
+use Rattle.vt_session.specs.declared.buffers.Buffer.{Buffer}
+use Rattle.vt_session.specs.Buffers.{Denial}
 use Rattle.vt_session.specs.Run.{State, IsStart}
 use Rattle.vt_session.specs.Session.{Kept, StandsFor, IsFaultOf}
 use Rattle.vt_session.specs.declared.fault.SessionFault.{SessionFault}
@@ -31,13 +32,13 @@ ground_of kept = record { meta = kept.meta; program = kept.program }
 
 -- what the clients' changes give can be held
 abbrev pub AreHeld : List Buffer → Type 0
-AreHeld open = AllByRecursion (λ b. AllByRecursion GivesStorable b.changes) open
+AreHeld buffers = AllByRecursion (λ b. AllByRecursion GivesStorable b.changes) buffers
 
 -- a run over a narrow program has come to a state
 pub record IsAt (kept : Kept) (state : State) : Type 0 where
   pub narrow : IsNarrow (counts_of kept.meta) kept.program
   pub stands : StandsFor kept state
-  pub held : AreHeld state.open
+  pub held : AreHeld state.buffers
 
 -- no command is one that isn't built
 abbrev pub AreBuilt : List Line → Type 0
