@@ -35,10 +35,19 @@ IsHeld b = AllByRecursion GivesStorable b.changes
 pub held-without : (client : List ℕ) (open : List Buffer) → AreHeld open → AreHeld (without_buffer client open)
 held-without client open held = all-filter IsHeld (λ b. not (is_name b.client client)) open held
 
-same_buffers : (xs ys : List Buffer) → the (Result (List Buffer) Denial) (Ok xs) ≡ Ok ys → xs ≡ ys
+abbrev Made : Type 0
+Made = Result (List Buffer) Denial
+
+abbrev made : List Buffer → Made
+made xs = Ok xs
+
+abbrev not_made : Denial → Made
+not_made denial = Err denial
+
+same_buffers : (xs ys : List Buffer) → made xs ≡ made ys → xs ≡ ys
 same_buffers xs ys e = cc
 
-begun_is : (a b : Bool) (xs ys : List Buffer) → the (Result (List Buffer) Denial) (if a then Err already_open else if b then Err too_many_open else Ok xs) ≡ Ok ys → xs ≡ ys
+begun_is : (a b : Bool) (xs ys : List Buffer) → (if a then not_made already_open else if b then not_made too_many_open else made xs) ≡ made ys → xs ≡ ys
 begun_is true b xs ys e = absurd (let none : ⊥ = cc in none)
 begun_is false true xs ys e = absurd (let none : ⊥ = cc in none)
 begun_is false false xs ys e = same_buffers xs ys e
@@ -63,7 +72,7 @@ changed_is : (client : List ℕ) (change : Change) (open after : List Buffer) (f
 changed_is client change open after None e = absurd (let none : ⊥ = cc in none)
 changed_is client change open after (Some b) e = full (length b.changes == 65536) e
   where
-    full : (t : Bool) → the (Result (List Buffer) Denial) (if t then Err too_many_changes else Ok (with_change client change open)) ≡ Ok after → with_change client change open ≡ after
+    full : (t : Bool) → (if t then not_made too_many_changes else made (with_change client change open)) ≡ made after → with_change client change open ≡ after
     full true e = absurd (let none : ⊥ = cc in none)
     full false e = same_buffers (with_change client change open) after e
 
@@ -71,7 +80,7 @@ pub held-changed : (client : List ℕ) (change : Change) (open after : List Buff
 held-changed client change open after storable held e =
     subst AreHeld (changed_is client change open after (buffer_of client open) e) (held-with_change client change open storable held)
 
-aborted_is : (a : Bool) (xs ys : List Buffer) → the (Result (List Buffer) Denial) (if a then Ok xs else Err not_open) ≡ Ok ys → xs ≡ ys
+aborted_is : (a : Bool) (xs ys : List Buffer) → (if a then made xs else not_made not_open) ≡ made ys → xs ≡ ys
 aborted_is true xs ys e = same_buffers xs ys e
 aborted_is false xs ys e = absurd (let none : ⊥ = cc in none)
 

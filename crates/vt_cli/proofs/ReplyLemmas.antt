@@ -107,15 +107,21 @@ module _ (old new : Kept) (one : IsOfOne old new) where
       same_stop s t e = cc
   of_refused fault.NoMemory denial stop word name text is of says = absurd says
 
+  abbrev not_made : Denial → Result Model Denial
+  not_made denial = Err denial
+
+  same_denial : (x y : Denial) → not_made x ≡ not_made y → x ≡ y
+  same_denial x y e = cc
+
   -- a transaction that isn't made is not open, or refused
   other_denial : (g : Model) (meta : Metamodel) (found : Option Buffer) (denial : Denial) → committed_from meta g found ≡ Err denial
       → (denial ≡ not_open) ⊎ ((stop : Stop) × (denial ≡ refused stop))
-  other_denial g meta None denial e = inl (let same : the (Result Model Denial) (Err not_open) ≡ Err denial = e in cc)
+  other_denial g meta None denial e = inl (sym (same_denial not_open denial e))
   other_denial g meta (Some b) denial e = inr (stopped (transaction meta g b.changes) e)
     where
       stopped : (r : Result Model Stop) → refused_at r ≡ Err denial → (stop : Stop) × (denial ≡ refused stop)
       stopped (Ok h) e = absurd (let none : ⊥ = cc in none)
-      stopped (Err stop) e = (stop, let same : the (Result Model Denial) (Err (refused stop)) ≡ Err denial = e in cc)
+      stopped (Err stop) e = (stop, sym (same_denial (refused stop) denial e))
 
   -- a refused commit leaves the state, or ends the buffer
   pub refusal_replied : (why : SessionFault) (client text : List ℕ) (state : State)
