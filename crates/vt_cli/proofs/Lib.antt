@@ -11,4 +11,5 @@ pub mod PutLemmas
 pub mod FewLemmas
 pub mod HeldLemmas
 pub mod ReplyLemmas
+pub mod PrintableLemmas
 pub mod RunLemmas

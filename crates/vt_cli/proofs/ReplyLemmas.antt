@@ -25,7 +25,7 @@ use Rattle.vt_cli.specs.Running.{Ground, names_at, BufferReply, StepReply, Commi
 use Rattle.vt_cli.specs.Inside.Marks.{all_marked}
 use Rattle.vt_cli.specs.Inside.Begun.{ground_of, AreHeld, IsAt, Denies, Tells}
 use Rattle.vt_cli.proofs.HeldLemmas.{held-without}
-use Rattle.vt_cli.proofs.EventLemmas.{AreEventTexts-marked, each_from}
+use Rattle.vt_cli.proofs.EventLemmas.{Each, AreEventTexts-marked, each_from}
 use Rattle.vt_cli.proofs.ReachLemmas.{IsTabled-at}
 
 -- ---- IfOk
@@ -150,7 +150,15 @@ module _ (old new : Kept) (one : IsOfOne old new) where
 
   -- ---- steps
 
-  -- what the names are that are printed after a step
+  -- what happened to each pattern
+  pub each_of : (client : List ℕ) (state : State) (report : StepReport) → IsAt old state → (commits : Commits client state report old new)
+      → Each (model_after state.steps) commits.step.model (tables_after state.steps) commits.step.tables report.events
+  each_of client state report at commits =
+      let count : length (tables_after state.steps) ≡ length commits.step.tables = (IsTabled-at old state at).count ∙ sym commits.is.tables.count in
+      each_from (model_after state.steps) commits.step.model (tables_after state.steps) commits.step.tables report.events commits.reports.events.count count
+      (λ n e found. (commits.reports.events.each (record { 0 = n }) e found).1)
+
+  -- the text over the report is the reply
   pub step_replied : (client : List ℕ) (state : State) (report : StepReport) (text : List ℕ) (meta : Metamodel) (g : Model) (program : Program)
       → IsAt old state → Commits client state report old new
       → meta ≡ new.meta → g ≡ new.model → program ≡ new.program
@@ -165,8 +173,6 @@ module _ (old new : Kept) (one : IsOfOne old new) where
       let olds = tables_after state.steps in
       let news = commits.step.tables in
       let count : length patterns ≡ length news = sym commits.is.tables.count in
-      let each = each_from before commits.step.model olds news report.events commits.reports.events.count ((IsTabled-at old state at).count ∙ count)
-      (λ n e found. (commits.reports.events.each (record { 0 = n }) e found).1) in
       let lines : ℕ → Names → List Pattern → List ℕ = λ n names ps. told (codes "commit") client (codes "step " ++ decimal n) ++ all_marked names ps report.events in (
         after,
         subst (λ due. CommitReply on client due state after text) (sym commits.due) (record {
@@ -175,7 +181,7 @@ module _ (old new : Kept) (one : IsOfOne old new) where
           leads = refl;
           events = all_marked (names_at on after) patterns report.events;
           of = subst (λ h. AreEventTexts (names_at on after) before h patterns olds news (all_marked (names_at on after) patterns report.events)) commits.is.model
-              (AreEventTexts-marked (names_at on after) before commits.step.model patterns olds news report.events (count ∙ sym commits.reports.events.count) each);
+              (AreEventTexts-marked (names_at on after) before commits.step.model patterns olds news report.events (count ∙ sym commits.reports.events.count) (each_of client state report at commits));
           says = is
               ∙ ap (λ n. lines n (record { enums = enum_names meta; objects = all_names g }) program.patterns) commits.reports.number
               ∙ ap (λ m. lines (length state.steps) (record { enums = enum_names m; objects = all_names g }) program.patterns) (meta_is ∙ one.meta)

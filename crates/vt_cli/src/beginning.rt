@@ -8,7 +8,7 @@ ghost use Rattle.vt_script.specs.Script.{script_of};
 ghost use Rattle.vt_cli.specs.Texts.{file_limit};
 ghost use Rattle.vt_cli.specs.Refusals.{refused_script};
 ghost use Rattle.vt_cli.specs.Result.{IsTold, IsRunOf, IsDueToModel, IsDueToTexts};
-ghost use Rattle.vt_cli.specs.declared.command.Task.TheVariants as task;
+ghost use Rattle.vt_cli.specs.declared.command.Task.TheVariants as tasks;
 ghost use Rattle.vt_cli.specs.declared.ending.Outcome.{Outcome};
 ghost use Rattle.vt_cli.specs.Inside.Prepared.{AreSmall, IsOfFiles};
 ghost use Rattle.vt_cli.specs.Inside.Begun.{AreBuilt, IsReady, ComesTo};
@@ -112,7 +112,7 @@ fn over_model<L: Ledger>(
     requires small { AreSmall texts.now }
     requires loaded { IsNet (base_of store.meta empty_model) (base_of store.meta store.model) loaded }
     ensures due { IfOk result (λ prepared. (outcome : Outcome) → ComesTo prepared outcome
-        → IsDueToModel task.Run (loaded_of store) texts.now outcome) }
+        → IsDueToModel tasks.Run (loaded_of store) texts.now outcome) }
     ensures suits { IfOk result (λ prepared. (outcome : Outcome) → ComesTo prepared outcome → IsOfFiles outcome.ending) }
     ensures ready { IfOk result IsReady }
 {
@@ -130,7 +130,7 @@ pub(crate) fn run<L: Ledger>(
 ) -> Result<Prepared, NoMemory>
     requires { AreSmall texts.now }
     ensures due { IfOk result (λ prepared. (outcome : Outcome) → ComesTo prepared outcome
-        → IsDueToTexts task.Run texts.now outcome) }
+        → IsDueToTexts tasks.Run texts.now outcome) }
     ensures suits { IfOk result (λ prepared. (outcome : Outcome) → ComesTo prepared outcome → IsOfFiles outcome.ending) }
     ensures ready { IfOk result IsReady }
 {

@@ -2,7 +2,7 @@
 ghost use Rattle.std.specs.Prelude.{◌≡◌, None, Some, IfOk};
 ghost use Rattle.vt_cli.specs.Command.{command_of, AsksNothing, IsWithoutRows};
 ghost use Rattle.vt_cli.specs.Result.{usage, shown, IsDueToTexts};
-ghost use Rattle.vt_cli.specs.declared.command.Task.TheVariants as task;
+ghost use Rattle.vt_cli.specs.declared.command.Task.TheVariants as tasks;
 ghost use Rattle.vt_cli.specs.declared.ending.Outcome.{Outcome};
 ghost use Rattle.vt_cli.specs.Inside.Prepared.{AreSmall, IsOfFiles, Prepares};
 ghost use Rattle.vt_cli.specs.Inside.Begun.{IsReady, ComesTo, IsWhole};
@@ -45,7 +45,7 @@ fn dump(alloc: Global, store: &Store) -> Result<Outcome, NoMemory>
 // What `show` makes of its texts.
 fn show(alloc: Global, texts: &[(Role, List<u8>)]) -> Result<Outcome, NoMemory>
     requires { AreSmall texts.now }
-    ensures due { IfOk result (λ outcome. IsDueToTexts task.Show texts.now outcome) }
+    ensures due { IfOk result (λ outcome. IsDueToTexts tasks.Show texts.now outcome) }
     ensures suits { IfOk result (λ outcome. IsOfFiles outcome.ending) }
 {
     match load(alloc, texts)? {
@@ -61,7 +61,7 @@ fn list<L: Ledger>(
     steps: &mut Steps<L>,
 ) -> Result<Outcome, NoMemory>
     requires { AreSmall texts.now }
-    ensures due { IfOk result (λ outcome. IsDueToTexts task.Matches texts.now outcome) }
+    ensures due { IfOk result (λ outcome. IsDueToTexts tasks.Matches texts.now outcome) }
     ensures suits { IfOk result (λ outcome. IsOfFiles outcome.ending) }
 {
     match load(alloc, texts)? {

@@ -6,7 +6,7 @@ ghost use Rattle.vt_graph.specs.Asked.{all_names};
 ghost use Rattle.vt_outside.specs.Faults.{CountsPut};
 ghost use Rattle.vt_session.specs.Run.{State};
 ghost use Rattle.vt_session.specs.Session.{IsOfOne};
-ghost use Rattle.vt_script.specs.declared.line.Line.TheVariants as line;
+ghost use Rattle.vt_script.specs.declared.line.Line.TheVariants as commands;
 ghost use Rattle.vt_cli.specs.Unbuilt.{is_unbuilt};
 ghost use Rattle.vt_cli.specs.Inside.Begun.{IsAt, AreBuilt, Replies, PutsReplies};
 
@@ -24,7 +24,7 @@ use vt_session::Session;
 
 fn begin(alloc: Global, session: &mut Session, client: &Text) -> Result<List<u8>, NoMemory>
     ensures of { IsOfOne session.old session.new }
-    ensures reply { Replies (line.Begin client.now) session.old session.new result }
+    ensures reply { Replies (commands.Begin client.now) session.old session.new result }
 {
     let answer = session.begin(alloc, client);
     replies::answered(alloc, "begin", client, answer)
@@ -37,7 +37,7 @@ fn change(
     change: &Change,
 ) -> Result<List<u8>, NoMemory>
     ensures of { IsOfOne session.old session.new }
-    ensures reply { Replies (line.Change client.now change.now) session.old session.new result }
+    ensures reply { Replies (commands.Change client.now change.now) session.old session.new result }
 {
     // What a change gives can be held, since it is held.
     change.gives_storable();
@@ -47,7 +47,7 @@ fn change(
 
 fn abort(alloc: Global, session: &mut Session, client: &Text) -> Result<List<u8>, NoMemory>
     ensures of { IsOfOne session.old session.new }
-    ensures reply { Replies (line.Abort client.now) session.old session.new result }
+    ensures reply { Replies (commands.Abort client.now) session.old session.new result }
 {
     let answer = session.abort(client);
     replies::answered(alloc, "abort", client, answer)
@@ -62,7 +62,7 @@ fn commit<L: Ledger>(
     requires at { (state : State) × IsAt session.old state }
     requires countable { session.old.step < 9223372036854775807 }
     ensures of { IsOfOne session.old session.new }
-    ensures reply { Replies (line.Commit client.now) session.old session.new result }
+    ensures reply { Replies (commands.Commit client.now) session.old session.new result }
 {
     // What the rows name has a name, and keeps it: the model is valid before and after.
     narrow_rows_are_named();
@@ -81,7 +81,7 @@ fn commit<L: Ledger>(
 
 fn matches(alloc: Global, session: &Session, pattern: &Text) -> Result<List<u8>, NoMemory>
     requires at { (state : State) × IsAt session.now state }
-    ensures reply { Replies (line.Matches pattern.now) session.now session.now result }
+    ensures reply { Replies (commands.Matches pattern.now) session.now session.now result }
 {
     narrow_rows_are_named();
     let store = session.store();
@@ -93,7 +93,7 @@ fn matches(alloc: Global, session: &Session, pattern: &Text) -> Result<List<u8>,
 }
 
 fn dump(alloc: Global, session: &Session) -> Result<List<u8>, NoMemory>
-    ensures reply { Replies line.Dump session.now session.now result }
+    ensures reply { Replies commands.Dump session.now session.now result }
 {
     let mut text = write_model(alloc, session.store())?;
     text.add(b'\n')?;
