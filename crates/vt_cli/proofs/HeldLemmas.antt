@@ -1,12 +1,12 @@
 -- What the changes of open buffers give can be held, whatever is done to the buffers.
-use Rattle.std.proofs.Common.{◌≡◌, List, [], ◌∷◌, ◌++◌, Bool, true, false, not, cond, Option, Some, None, Result, Ok, Err, refl, sym, ap, subst, ◌∙◌}
+use Rattle.std.proofs.Common.{◌≡◌, ℕ, List, [], ◌∷◌, ◌++◌, Bool, true, false, not, cond, Option, Some, None, Result, Ok, Err, refl, sym, ap, subst, ◌∙◌}
 use Rattle.std.specs.Prelude.{filter, map, find, is_some, nat_le, ◌==◌, length, if◌then◌else◌}
 use Rattle.std.specs.List.{AllByRecursion}
 use Rattle.vt_facts.specs.Names.{is_name}
 use Rattle.vt_model.specs.Storable.{GivesStorable}
 use Rattle.vt_model.specs.declared.change.Change.{Change}
 use Rattle.vt_session.specs.declared.buffers.Buffer.{Buffer}
-use Rattle.vt_session.specs.Buffers.{Denial, already_open, too_many_open, not_open, too_many_changes, buffer_of, without_buffer, with_change, begun, changed_in, changed, aborted}
+use Rattle.vt_session.specs.Buffers.{Denial, already_open, too_many_open, not_open, too_many_changes, buffer_of, without_buffer, with_its_change, with_change, begun, changed_in, changed, aborted}
 use Rattle.vt_cli.specs.Inside.Begun.{AreHeld}
 
 -- ---- AllByRecursion
@@ -58,15 +58,15 @@ held-begun client open after held e =
     subst AreHeld (begun_is (is_some (buffer_of client open)) (nat_le 64 (length open)) (open ++ fresh ∷ []) after e)
     (all_on IsHeld open (fresh ∷ []) held (tt, tt))
 
+held-with_its_change : (client : List ℕ) (change : Change) → GivesStorable change → (b : Buffer) → IsHeld b → IsHeld (with_its_change client change b)
+held-with_its_change client change storable b h = elim (is_name b.client client) as (λ t. IsHeld (if t then record b { changes = b.changes ++ change ∷ [] } else b)) [
+  | true ↦ all_on GivesStorable b.changes (change ∷ []) h (storable, tt)
+  | false ↦ h
+]
+
 held-with_change : (client : List ℕ) (change : Change) (open : List Buffer) → GivesStorable change → AreHeld open → AreHeld (with_change client change open)
 held-with_change client change open storable held =
-    all-map IsHeld (λ b. if is_name b.client client then record b { changes = b.changes ++ change ∷ [] } else b) keeps open held
-  where
-    keeps : (b : Buffer) → IsHeld b → IsHeld (if is_name b.client client then record b { changes = b.changes ++ change ∷ [] } else b)
-    keeps b h = elim (is_name b.client client) as (λ t. IsHeld (if t then record b { changes = b.changes ++ change ∷ [] } else b)) [
-      | true ↦ all_on GivesStorable b.changes (change ∷ []) h (storable, tt)
-      | false ↦ h
-    ]
+    all-map IsHeld (with_its_change client change) (held-with_its_change client change storable) open held
 
 changed_is : (client : List ℕ) (change : Change) (open after : List Buffer) (found : Option Buffer) → changed_in client change open found ≡ Ok after → with_change client change open ≡ after
 changed_is client change open after None e = absurd (let none : ⊥ = cc in none)

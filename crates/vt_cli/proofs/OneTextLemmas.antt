@@ -8,10 +8,11 @@ use Rattle.vt_history.specs.History.{Cause, Step, load, commit, model_after, tab
 use Rattle.vt_session.specs.declared.buffers.Buffer.{Buffer}
 use Rattle.vt_session.specs.Buffers.{Denial, begun, changed, aborted}
 use Rattle.vt_session.specs.Run.{State, IsStep, IsStart, committed, after_step}
+use Rattle.vt_session.specs.Session.{table_in}
 use Rattle.vt_script.specs.declared.line.Line.{Line}
 use Rattle.vt_script.specs.declared.line.Line.TheVariants as line
 use Rattle.vt_cli.specs.Replies.{told, load_line, AreEventTexts}
-use Rattle.vt_cli.specs.Running.{Ground, names_at, BufferReply, StepReply, CommitReply, table_named, MatchesReply, Replied, Answered, IsRun}
+use Rattle.vt_cli.specs.Running.{Ground, names_at, BufferReply, StepReply, CommitReply, MatchesReply, Replied, Answered, IsRun}
 use Rattle.vt_cli.proofs.EventLemmas.{one_events}
 
 module _ (on : Ground)
@@ -19,7 +20,7 @@ module _ (on : Ground)
   -- a step's cause and its model decide it
   same_step : (cause : Cause) (g : Model) (step other : Step) → IsStep on.meta on.program cause g step → IsStep on.meta on.program cause g other → step ≡ other
   same_step cause g step other a b =
-      let why = a.cause ∙ sym b.cause in
+      let why = a.caused ∙ sym b.caused in
       let model = a.model ∙ sym b.model in
       let tables = one_list g step.tables other.tables a.tables b.tables in
       λ i. record { cause = why i; model = model i; tables = tables i }
@@ -58,7 +59,7 @@ module _ (on : Ground)
   one_reply (line.Abort client) state after other text too a b = one_buffer (codes "abort") client (aborted client state.buffers) state after other text too a b
   one_reply (line.Commit client) state after other text too a b = one_commit client (committed on.meta client state) state after other text too a b
   one_reply (line.Matches pattern) state after other text too a b =
-      (a.0 ∙ sym b.0, one_matches state pattern (table_named on.program (tables_after state.steps) pattern) text too a.1 b.1)
+      (a.0 ∙ sym b.0, one_matches state pattern (table_in on.program (tables_after state.steps) pattern) text too a.1 b.1)
   one_reply line.Dump state after other text too a b = (a.0 ∙ sym b.0, a.1 ∙ sym b.1)
   one_reply (line.Fire agenda n) state after other text too a b = absurd a
   one_reply (line.Swap agenda kind) state after other text too a b = absurd a

@@ -26,7 +26,7 @@ use Rattle.vt_session.specs.declared.buffers.Buffer.{Buffer}
 use Rattle.vt_session.specs.Buffers.{Denial, buffer_of}
 use Rattle.vt_session.specs.Run.{State, committed_from, refused_at}
 use Rattle.vt_session.specs.Session.{Kept, IsOfOne, Commits}
-use Rattle.vt_cli.specs.Running.{table_named}
+use Rattle.vt_session.specs.Session.{table_in}
 use Rattle.vt_cli.specs.Inside.Printable.{AllNamed, AllTablesNamed, AllEventsNamed}
 use Rattle.vt_cli.specs.Inside.Begun.{ground_of, IsAt}
 use Rattle.vt_cli.proofs.NamedLemmas.{tables_named}
@@ -74,7 +74,7 @@ module _ (named : (meta : Metamodel) (g : Model) (counts : Counts) (program : Pr
   -- ---- matches
 
   pub matches_named : (kept : Kept) (state : State) (name : List ℕ) (rows : List (List Value)) → IsSound kept.meta → IsValid kept.meta kept.model
-      → IsAt kept state → table_named kept.program kept.tables name ≡ Some rows → AllNamed (enum_names kept.meta) (all_names kept.model) rows
+      → IsAt kept state → table_in kept.program kept.tables name ≡ Some rows → AllNamed (enum_names kept.meta) (all_names kept.model) rows
   matches_named kept state name rows sound valid at asked =
       let stand : StandFor kept.meta kept.model kept.program kept.tables =
       subst (λ g. StandFor kept.meta g kept.program kept.tables) (sym at.stands.model)

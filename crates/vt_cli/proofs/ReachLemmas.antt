@@ -18,12 +18,12 @@ use Rattle.vt_history.specs.History.{commit, Step, IsHistory, model_after, table
 use Rattle.vt_session.specs.declared.buffers.Buffer.{Buffer}
 use Rattle.vt_session.specs.Buffers.{Denial, already_open, too_many_open, not_open, too_many_changes, refused, begun, changed, aborted}
 use Rattle.vt_session.specs.Run.{State, committed, without, after_step}
-use Rattle.vt_session.specs.Session.{Kept, StandsFor}
+use Rattle.vt_session.specs.Session.{Kept, StandsFor, table_in}
 use Rattle.vt_script.specs.declared.line.Line.{Line}
 use Rattle.vt_script.specs.declared.line.Line.TheVariants as line
 use Rattle.vt_cli.specs.Unbuilt.{is_unbuilt}
 use Rattle.vt_cli.specs.Replies.{told, denial_text, matches_text, AreEventTexts}
-use Rattle.vt_cli.specs.Running.{Ground, names_at, BufferReply, StepReply, CommitReply, after_denial, table_named, MatchesReply, Replied, Answered}
+use Rattle.vt_cli.specs.Running.{Ground, names_at, BufferReply, StepReply, CommitReply, after_denial, MatchesReply, Replied, Answered}
 use Rattle.vt_cli.specs.Inside.Begun.{ground_of, IsAt, AreBuilt}
 use Rattle.vt_cli.proofs.SomeEventLemmas.{AllAscend, some_events}
 
@@ -88,7 +88,7 @@ module _ (on : Ground) (narrow : IsNarrow (counts_of on.meta) on.program)
         told (codes "commit") client (codes "step " ++ decimal (length state.steps)) ++ events.0,
         record {
           step = step;
-          is = record { cause = refl; model = refl; tables = made.1 };
+          is = record { caused = refl; model = refl; tables = made.1 };
           leads = refl;
           events = events.0;
           of = events.1;
@@ -108,7 +108,7 @@ module _ (on : Ground) (narrow : IsNarrow (counts_of on.meta) on.program)
   line_reply (line.Abort client) state built tabled = buffer_reply (codes "abort") client (aborted client state.buffers) state tabled
   line_reply (line.Commit client) state built tabled = commit_reply client (committed on.meta client state) state tabled
   line_reply (line.Matches pattern) state built tabled =
-      let reply = matches_reply pattern (table_named on.program (tables_after state.steps) pattern) state in
+      let reply = matches_reply pattern (table_in on.program (tables_after state.steps) pattern) state in
       (state, reply.0, (refl, reply.1), tabled)
   line_reply line.Dump state built tabled = (state, dump on.meta (model_after state.steps) ++ codes "\n", (refl, refl), tabled)
   line_reply (line.Fire agenda n) state built tabled = absurd (let none : ⊥ = cc in none)

@@ -24,7 +24,7 @@ use Rattle.vt_query.specs.declared.program.Pattern.{Pattern}
 use Rattle.vt_query.specs.declared.program.Program.{Program}
 use Rattle.vt_history.specs.Events.{AreEvents}
 use Rattle.vt_history.specs.declared.report.PatternEvents.{PatternEvents}
-use Rattle.vt_cli.specs.Running.{table_named}
+use Rattle.vt_session.specs.Session.{table_in}
 use Rattle.vt_cli.specs.Inside.Marks.{happened}
 use Rattle.vt_cli.specs.Inside.Printable.{AllNamed, AllTablesNamed, AllEventsNamed}
 use Rattle.vt_cli.proofs.NamedLemmas.{each_weaker}
@@ -123,7 +123,7 @@ module _ (enums : List EnumNames) (objects : List ObjectName) where
   found_named (table ∷ tables) (suc n) rows named e = found_named tables n rows named.1 e
 
   pub asked_named : (program : Program) (tables : List (List (List Value))) (name : List ℕ) (rows : List (List Value))
-      → AllTablesNamed enums objects tables → table_named program tables name ≡ Some rows → AllNamed enums objects rows
+      → AllTablesNamed enums objects tables → table_in program tables name ≡ Some rows → AllNamed enums objects rows
   asked_named program tables name rows named e = at (position (λ (p : Pattern). p.shown && is_name p.name name) program.patterns) e
     where
       at : (place : Option ℕ) → option_and_then (slice_get tables) place ≡ Some rows → AllNamed enums objects rows

@@ -1,6 +1,5 @@
 -- The run of a script: the states that its commands lead through, and the text that is due.
-use Rattle.std.specs.Prelude.{◌≡◌, ◌&&◌, ℕ, List, [], ◌∷◌, ◌++◌, length, position, slice_get, codes, decimal, option_and_then, Option, Some, None, Result, Ok, Err}
-use Rattle.vt_facts.specs.Names.{is_name}
+use Rattle.std.specs.Prelude.{◌≡◌, ℕ, List, [], ◌∷◌, ◌++◌, length, codes, decimal, Option, Some, None, Result, Ok, Err}
 use Rattle.vt_base.specs.declared.value.Value.{Value}
 use Rattle.vt_model.specs.Metamodel.{Metamodel, enum_names}
 use Rattle.vt_model.specs.Model.{Model}
@@ -10,6 +9,7 @@ use Rattle.vt_model_json.specs.Dump.{dump}
 use Rattle.vt_history.specs.History.{commit, Step, model_after, tables_after}
 use Rattle.vt_session.specs.declared.buffers.Buffer.{Buffer}
 use Rattle.vt_session.specs.Buffers.{Denial, not_open, refused, begun, changed, aborted}
+use Rattle.vt_session.specs.Session.{table_in}
 use Rattle.vt_session.specs.Run.{State, IsStart, IsStep, committed, without, after_step}
 use Rattle.vt_script.specs.declared.line.Line.{Line}
 use Rattle.vt_script.specs.declared.line.Line.TheVariants as line
@@ -50,10 +50,6 @@ CommitReply on client (Ok g) state after text = StepReply on client g state afte
 CommitReply on client (Err denial) state after text =
     (after ≡ after_denial denial client state) × (text ≡ told (codes "commit") client (denial_text denial))
 
--- the table of the pattern of this name that isn't private
-abbrev pub table_named : Program → List (List (List Value)) → List ℕ → Option (List (List Value))
-table_named program tables name = option_and_then (slice_get tables) (position (λ p. p.shown && is_name p.name name) program.patterns)
-
 abbrev pub MatchesReply : Names → List ℕ → Option (List (List Value)) → List ℕ → Type 0
 MatchesReply names pattern None text = text ≡ told (codes "matches") pattern (codes "refused UnknownPattern")
 MatchesReply names pattern (Some rows) text = text ≡ matches_text names pattern rows
@@ -65,7 +61,7 @@ Replied on (line.Change client change) state after text = BufferReply (codes "ch
 Replied on (line.Abort client) state after text = BufferReply (codes "abort") client (aborted client state.buffers) state after text
 Replied on (line.Commit client) state after text = CommitReply on client (committed on.meta client state) state after text
 Replied on (line.Matches pattern) state after text =
-    (after ≡ state) × MatchesReply (names_at on state) pattern (table_named on.program (tables_after state.steps) pattern) text
+    (after ≡ state) × MatchesReply (names_at on state) pattern (table_in on.program (tables_after state.steps) pattern) text
 Replied on line.Dump state after text = (after ≡ state) × (text ≡ dump on.meta (model_after state.steps) ++ codes "\n")
 Replied on other state after text = ⊥
 

@@ -1,5 +1,5 @@
 // How what a command comes to is written.
-ghost use Rattle.std.specs.Prelude.{◌≡◌, ◌×◌, ℕ, List};
+ghost use Rattle.std.specs.Prelude.{◌≡◌, ℕ, List};
 ghost use Rattle.vt_outside.specs.Faults.{CountsPut};
 ghost use Rattle.vt_cli.specs.Running.{IsRun};
 ghost use Rattle.vt_cli.specs.declared.ending.Outcome.{Outcome};

@@ -1,5 +1,5 @@
 // The run of a script: its commands one after the other, each with its reply.
-ghost use Rattle.std.specs.Prelude.{◌≡◌, ◌≤◌, ◌<◌, ◌+◌, ◌×◌, length, IfOk, false, Some, None};
+ghost use Rattle.std.specs.Prelude.{◌≡◌, ◌≤◌, ◌<◌, ◌+◌, length, IfOk, false, Some, None};
 ghost use Rattle.vt_model.specs.Metamodel.{enum_names};
 ghost use Rattle.vt_model.specs.declared.change.Change.{Change};
 ghost use Rattle.vt_graph.specs.Asked.{all_names};
