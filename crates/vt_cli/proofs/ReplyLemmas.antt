@@ -34,7 +34,15 @@ pub IfOk-map : {T E : Type 0} (r : Result T E) (P Q : T → Type 0) → ((x : T)
 IfOk-map (Ok x) P Q follows p = follows x p
 IfOk-map (Err e) P Q follows p = p
 
+pub IfErr-map : {T E : Type 0} (r : Result T E) (P Q : E → Type 0) → ((e : E) → P e → Q e) → IfErr r P → IfErr r Q
+IfErr-map (Ok x) P Q follows p = p
+IfErr-map (Err e) P Q follows p = follows e p
+
 -- ---- denials
+
+-- what is told of a buffer that isn't there
+pub denied_not_open : (due : Result (List Buffer) Denial) (why : SessionFault) → (why ≡ fault.NotOpen) × (due ≡ Err not_open) → IsDenied why due
+denied_not_open due why p = subst (λ w. IsDenied w due) (sym p.0) (not_open, p.1, refl)
 
 -- the denial that is due, and the text that tells it
 pub record IsDenial {A : Type 0} (due : Result A Denial) (why : SessionFault) (word name text : List ℕ) : Type 0 where

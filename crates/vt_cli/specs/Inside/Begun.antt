@@ -32,7 +32,7 @@ ground_of kept = record { meta = kept.meta; program = kept.program }
 
 -- what the clients' changes give can be held
 abbrev pub AreHeld : List Buffer → Type 0
-AreHeld buffers = AllByRecursion (λ b. AllByRecursion GivesStorable b.changes) buffers
+AreHeld buffers = AllByRecursion (λ (b : Buffer). AllByRecursion GivesStorable b.changes) buffers
 
 -- a run over a narrow program has come to a state
 pub record IsAt (kept : Kept) (state : State) : Type 0 where
@@ -42,7 +42,7 @@ pub record IsAt (kept : Kept) (state : State) : Type 0 where
 
 -- no command is one that isn't built
 abbrev pub AreBuilt : List Line → Type 0
-AreBuilt lines = AllByRecursion (λ line. is_unbuilt line ≡ false) lines
+AreBuilt lines = AllByRecursion (λ (command : Line). is_unbuilt command ≡ false) lines
 
 -- ---- replies
 
