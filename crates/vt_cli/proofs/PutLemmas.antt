@@ -1,5 +1,6 @@
 -- Texts that are put one after the other, and the ending of what was put.
 use Rattle.std.proofs.Common.{◌≡◌, ℕ, zero, suc, ◌+◌, ◌≤◌, min, List, [], ◌∷◌, ◌++◌, length, take, Option, Some, None, Result, Ok, Err, refl, sym, ap, subst, ◌∙◌, arith, inl, inr}
+use Rattle.std.specs.Prelude.{OnOk, OnErr}
 use Rattle.std.specs.Io.KnownBytes.{Appends}
 use Rattle.std.proofs.KnownBytes.{Appends-nil, Appends-trans}
 use Rattle.vt_outside.specs.Faults.{Rose, raised, CountsPut}
@@ -50,6 +51,12 @@ pub front_only : (a b : Option (List ℕ)) (bs cs : List ℕ) → Appends a b bs
 front_only a b bs cs whole = front_after a b b bs cs whole (front_none b cs)
 
 -- ---- the ending
+
+-- what a sink says of a put
+pub IsPut-from : (result : Result (Unit {0}) PutFail) (old new : Option (List ℕ)) (piece : List ℕ)
+    → OnOk result (Appends old new piece) → OnErr result (AppendsPrefix old new piece) → IsPut result old new piece
+IsPut-from (Ok done) old new piece whole part = whole
+IsPut-from (Err why) old new piece whole part = part
 
 pub Delivers-put : (outcome : Outcome) (result : Result (Unit {0}) PutFail) (before now : ℕ) (old new : Option (List ℕ))
     → IsPut result old new outcome.text → CountsPut before now result → Delivers outcome (ended outcome.ending result) before now old new

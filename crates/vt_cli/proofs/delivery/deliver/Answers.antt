@@ -1,11 +1,13 @@
+use Rattle.std.proofs.Common.{refl}
 use Rattle.vt_cli.specs.Result.{done}
-use Rattle.vt_cli.proofs.PutLemmas.{Delivers-put}
+use Rattle.vt_cli.proofs.PutLemmas.{IsPut-from, Delivers-put}
 use Rattle.vt_cli.proofs.delivery.deliver.Goals as goal
 
 -- the outcome's text
 pub returns-in-Told-clause-delivered : goal.returns-in-Told-clause-delivered
 returns-in-Told-clause-delivered g c =
-    (c.in-Told.outcome, refl, Delivers-put c.in-Told.outcome c.put.result _ _ _ _ c.put.ensures.is_put c.put.ensures.cause)
+    let outcome = c.in-Told.outcome in
+    (outcome, refl, Delivers-put outcome c.put.result _ _ _ _ (IsPut-from c.put.result _ _ outcome.text c.put.ensures.whole c.put.ensures.prefix) c.put.ensures.cause)
 
 -- the text of the run
 pub returns-in-Begun-clause-delivered : goal.returns-in-Begun-clause-delivered
