@@ -32,6 +32,7 @@ module _ {A B : Type 0} (f : A → Option B) where
       rest : (y : B) (found : Option (List B)) → all_of f xs ≡ found → (found >>= λ zs. Some (y ∷ zs)) ≡ Some ys → length ys ≡ suc (length xs)
       rest y None is e = absurd (let none : ⊥ = cc in none)
       rest y (Some zs) is e = ap length (sym (some_same (y ∷ zs) ys e)) ∙ ap suc (length-all_of xs zs is)
+
       first : (found : Option B) → (found >>= λ y. all_of f xs >>= λ zs. Some (y ∷ zs)) ≡ Some ys → length ys ≡ suc (length xs)
       first None e = absurd (let none : ⊥ = cc in none)
       first (Some y) e = rest y (all_of f xs) refl e
@@ -45,6 +46,7 @@ few_of meta tree program e =
   where
     at_most : (m n : ℕ) → nat_le m n ≡ true → m ≤ n
     at_most m n e = grind (arith, nat_tests)
+
     cases : (a b : Bool) (made : Option (List Pattern)) → (if a && b then option_map (λ patterns. record { patterns = patterns }) made else None) ≡ Some program
         → (a ≡ true) × (made ≡ Some program.patterns)
     cases true true (Some patterns) e = (refl, ap (λ (o : Option Program). option_map (λ (p : Program). p.patterns) o) e)

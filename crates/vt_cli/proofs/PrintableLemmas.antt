@@ -54,8 +54,8 @@ made_from meta g after (Some b) e = record { buffer = b; is = refl; makes = made
     made (Err stop) e = absurd (let none : ⊥ = cc in none)
 
 module _ (named : (meta : Metamodel) (g : Model) (counts : Counts) (program : Program) (tables : List (List (List Value)))
-        → IsSound meta → AllFit meta g → IsNarrow counts program → StandFor meta g program tables
-        → AllByRecursion (AllByRecursion (AreNamed (enum_names meta) (object_names g))) tables) where
+    → IsSound meta → AllFit meta g → IsNarrow counts program → StandFor meta g program tables
+    → AllByRecursion (AllByRecursion (AreNamed (enum_names meta) (object_names g))) tables) where
   -- tables of a valid model
   named_now : (meta : Metamodel) (g : Model) (program : Program) (tables : List (List (List Value)))
       → IsSound meta → IsValid meta g → IsNarrow (counts_of meta) program → StandFor meta g program tables
@@ -85,7 +85,7 @@ module _ (named : (meta : Metamodel) (g : Model) (counts : Counts) (program : Pr
   -- ---- events
 
   module _ (keeps : (meta : Metamodel) (g after : Model) (changes : List Change)
-          → IsSound meta → IsValid meta g → All GivesStorable changes → transaction meta g changes ≡ Ok after → Keeps g after)
+      → IsSound meta → IsValid meta g → All GivesStorable changes → transaction meta g changes ≡ Ok after → Keeps g after)
       (old new : Kept) (one : IsOfOne old new) (client : List ℕ) (report : StepReport) (state : State) (at : IsAt old state)
       (commits : Commits client state report old new)
       (sound : IsSound old.meta) (valid : IsValid old.meta old.model) (valid_too : IsValid new.meta new.model) where

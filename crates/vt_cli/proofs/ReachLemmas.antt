@@ -61,7 +61,7 @@ IsTabled-at kept state at = tabled_last kept.meta kept.program kept.step state.s
 
 module _ (on : Ground) (narrow : IsNarrow (counts_of on.meta) on.program)
     (tables_stand : (meta : Metamodel) (g : Model) (program : Program) → IsNarrow (counts_of meta) program
-        → (tables : List (List (List Value))) × StandFor meta g program tables) where
+    → (tables : List (List (List Value))) × StandFor meta g program tables) where
   buffer_reply : (word client : List ℕ) (due : Result (List Buffer) Denial) (state : State) → IsTabled on state
       → (after : State) × (text : List ℕ) × BufferReply word client due state after text × IsTabled on after
   buffer_reply word client (Ok buffers) state tabled = (record state { buffers = buffers }, told word client (codes "ok"), (refl, refl), tabled)

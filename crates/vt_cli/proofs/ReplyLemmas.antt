@@ -152,7 +152,7 @@ module _ (old new : Kept) (one : IsOfOne old new) where
           without client state,
           reply (without client state) (ap (λ x. after_denial x client state) (sym stop.1)),
           (let of = of_refused why denial.denial stop.0 (codes "commit") client text stop.1 denial.of says in
-          IsAt-next state (without client state) at (ended stop.0.at stop.0.why of) (held-without client state.buffers at.held)),
+              IsAt-next state (without client state) at (ended stop.0.at stop.0.why of) (held-without client state.buffers at.held)),
         )
       ]
 
@@ -171,7 +171,7 @@ module _ (old new : Kept) (one : IsOfOne old new) where
       → IsAt old state → Commits client state report old new
       → meta ≡ new.meta → g ≡ new.model → program ≡ new.program
       → text ≡ told (codes "commit") client (codes "step " ++ decimal report.step)
-          ++ all_marked (record { enums = enum_names meta; objects = all_names g }) program.patterns report.events
+      ++ all_marked (record { enums = enum_names meta; objects = all_names g }) program.patterns report.events
       → (after : State) × CommitReply (ground_of old) client (committed old.meta client state) state after text × IsAt new after
   step_replied client state report text meta g program at commits meta_is g_is program_is is =
       let on = ground_of old in

@@ -76,9 +76,12 @@ module _ (before after : Model) where
   is_other v = false
 
   is_other-object : (v : Value) → is_other v ≡ true → (o : ObjId) × (v ≡ Obj o) × (values_of before o ≢ values_of after o)
-  is_other-object (Obj o) e = (o, refl,
-      λ same. false≢true (sym (false_not (same_values (values_of before o) (values_of after o)) e)
-      ∙ ap (λ ts. same_values (values_of before o) ts) (sym same) ∙ same_values-self (values_of before o)))
+  is_other-object (Obj o) e = (
+    o,
+    refl,
+    λ same. false≢true (sym (false_not (same_values (values_of before o) (values_of after o)) e)
+        ∙ ap (λ ts. same_values (values_of before o) ts) (sym same) ∙ same_values-self (values_of before o)),
+  )
   is_other-object (Flag b) e = absurd (false≢true e)
   is_other-object (Int n) e = absurd (false≢true e)
   is_other-object (Text s) e = absurd (false≢true e)

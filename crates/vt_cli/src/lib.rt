@@ -27,17 +27,17 @@ mod beginning;
 mod events;
 mod replies;
 mod running;
-mod unbuilt;
 #[cfg(test)]
 mod tests;
+mod unbuilt;
 // What holds of every run.
 mod laws;
 
 // How a run ends.
 pub use ending::{Ending, Role};
 // What holds of every run.
-pub use laws::one_outcome_is_due;
 use delivery::deliver;
+pub use laws::one_outcome_is_due;
 use outcome::prepare;
 use std::alloc::Global;
 use std::sync::ledger::Ledger;

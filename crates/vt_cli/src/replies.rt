@@ -12,12 +12,7 @@ use vt_base::{List, Names, NoMemory, Rows, Text};
 use vt_session::SessionFault;
 
 /// A command's word, the client or the pattern that it names, and what is told.
-pub(crate) fn told(
-    alloc: Global,
-    word: &str,
-    name: &Text,
-    what: &str,
-) -> Result<List<u8>, NoMemory>
+pub(crate) fn told(alloc: Global, word: &str, name: &Text, what: &str) -> Result<List<u8>, NoMemory>
     ensures { IfOk result (λ text. text ≡ told word.now name.now what.now) }
 {
     let name = name.as_str();

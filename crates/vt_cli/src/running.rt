@@ -115,7 +115,10 @@ fn reply<L: Ledger>(
 {
     match line {
         Line::Begin(client) => begin(alloc, session, client),
-        Line::Change { client, change: edit } => change(alloc, session, client, edit),
+        Line::Change {
+            client,
+            change: edit,
+        } => change(alloc, session, client, edit),
         Line::Commit(client) => commit(alloc, session, client, steps),
         Line::Abort(client) => abort(alloc, session, client),
         Line::Matches(pattern) => matches(alloc, session, pattern),

@@ -195,7 +195,11 @@ fn a_script_has_its_replies(rt: HostRuntime) -> Result<(), Fail> {
         (HOLDS, DUMPED, DUMPED_REPLIES),
         (HOLDS, "", "load: step 0\n"),
         (HOLDS, "\n// nothing\n", "load: step 0\n"),
-        ("", "matches holds", "load: step 0\nmatches holds: refused UnknownPattern\n"),
+        (
+            "",
+            "matches holds",
+            "load: step 0\nmatches holds: refused UnknownPattern\n",
+        ),
     ] {
         assert_replies(&rt, alloc, queries, script, replies)?;
     }
@@ -257,4 +261,3 @@ matches pages: 3
 fn events_stand_by_pattern_and_tuple(rt: HostRuntime) -> Result<(), Fail> {
     assert_replies(&rt, rt.alloc(), PATTERNS, PATTERNS_SCRIPT, PATTERNS_REPLIES)
 }
-

@@ -97,16 +97,28 @@ fn a_model_without_objects_has_no_matches(rt: HostRuntime) -> Result<(), Fail> {
 
 // A script, and the line that tells its first fault. Most have another fault behind it.
 const REFUSED_SCRIPTS: &[(&str, &str)] = &[
-    ("dump\n\n// begin\nbegin\ncommit\n", "fault: script Syntax 4\n"),
+    (
+        "dump\n\n// begin\nbegin\ncommit\n",
+        "fault: script Syntax 4\n",
+    ),
     ("fire main 1\ndump \n", "fault: script Syntax 2\n"),
     ("swap main worst\n", "fault: script Syntax 1\n"),
-    ("dump\nfire main 1\nswap main turns", "fault: script NotBuilt 2\n"),
+    (
+        "dump\nfire main 1\nswap main turns",
+        "fault: script NotBuilt 2\n",
+    ),
     (
         "\n// one\ndump\n\nactivations main\nfire main 0\n",
         "fault: script NotBuilt 2\n",
     ),
-    ("swap main turns\nmatches holds\n", "fault: script NotBuilt 1\n"),
-    ("dump\ndump\ngroup holds 1 y\n", "fault: script NotBuilt 3\n"),
+    (
+        "swap main turns\nmatches holds\n",
+        "fault: script NotBuilt 1\n",
+    ),
+    (
+        "dump\ndump\ngroup holds 1 y\n",
+        "fault: script NotBuilt 3\n",
+    ),
 ];
 
 // A script over the library is refused, and this line tells why.
@@ -194,7 +206,9 @@ fn sixty_four_clients_may_have_a_transaction_open(rt: HostRuntime) -> Result<(),
         replies.push_str(line.as_str())?;
     }
     script.push_str("begin d\nbegin c7\nabort c7\nbegin d\n")?;
-    replies.push_str("begin d: refused TooManyOpen\nbegin c7: refused AlreadyOpen\nabort c7: ok\nbegin d: ok\n")?;
+    replies.push_str(
+        "begin d: refused TooManyOpen\nbegin c7: refused AlreadyOpen\nabort c7: ok\nbegin d: ok\n",
+    )?;
     assert_replies(&rt, alloc, HOLDS, script.as_str(), replies.as_str())
 }
 
