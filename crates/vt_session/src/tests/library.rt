@@ -83,12 +83,10 @@ fn program(alloc: Global) -> Result<Program, NoMemory>
 fn nothing(alloc: Global, meta: &Metamodel) -> BaseDelta
     ensures { IsNet (base_of meta.now empty_model) (base_of meta.now empty_model) result }
 {
-    BaseDelta::none(
-        alloc,
-        usize::from(meta.class_count()),
-        usize::from(meta.attr_count()),
-        usize::from(meta.ref_count()),
-    )
+    let classes = usize::from(meta.class_count());
+    let attributes = usize::from(meta.attr_count());
+    let references = usize::from(meta.ref_count());
+    BaseDelta::none(alloc, classes, attributes, references)
 }
 
 pub(super) fn empty_library<L: Ledger>(
