@@ -73,9 +73,11 @@ fn program(alloc: Global) -> Result<Program, NoMemory>
     ensures narrow { IfOk result (λ p. (counts : Counts) → 1 < counts.classes → IsNarrow counts p) }
     ensures two { IfOk result (λ p. length p.patterns ≡ 2) }
 {
+    let book = pattern(alloc, "book", true, ClassId(1))?;
+    let shelf = pattern(alloc, "shelf", false, ClassId(0))?;
     let mut patterns = List::new(alloc);
-    patterns.add(pattern(alloc, "book", true, ClassId(1))?)?;
-    patterns.add(pattern(alloc, "shelf", false, ClassId(0))?)?;
+    patterns.add(book)?;
+    patterns.add(shelf)?;
     Ok(Program { patterns })
 }
 
