@@ -3,8 +3,6 @@ pub mod Order
 pub mod Rows
 pub mod Aggregate
 pub mod Base
-pub mod Changes
-pub mod Deltas
 pub mod Names
 pub mod Written
 -- for the crate alone

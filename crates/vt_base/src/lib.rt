@@ -3,8 +3,8 @@
 //! It stands on `vt_shared`, `vt_facts` and `vt_sorted`, keeps short tuples by `smallvec`, and prints by
 //! `serde_json` and `itoa`. Read `vt_facts/specs/Room.antt`,
 //! `vt_sorted/specs/Ascending.antt`, `specs/Order.antt`, `specs/Rows.antt`,
-//! `specs/Aggregate.antt`, `specs/Base.antt`, `specs/Changes.antt`, `specs/Deltas.antt`,
-//! `specs/Names.antt`, then `specs/Written.antt`: these are trusted.
+//! `specs/Aggregate.antt`, `specs/Base.antt`, `specs/Names.antt`, then `specs/Written.antt`: these
+//! are trusted.
 #![tactic(auto)]
 
 // Memory: what wanting it answers, and what can be copied.
@@ -21,10 +21,8 @@ mod aggregate;
 mod laws;
 mod rows;
 mod tuple;
-// What queries ask a model for, and how it changed.
+// What queries ask a model for.
 mod base;
-mod delta;
-mod deltas;
 // Activations of rules, and how an agenda picks one.
 mod agenda;
 // Printing.
@@ -45,16 +43,13 @@ pub use value::{Kind, Value};
 // Tuples of values, sets of them, and what a column of one comes to.
 pub use aggregate::AggKind;
 pub use laws::{
-    a_list_has_one_set, a_net_delta_leads_on, a_net_delta_stays_net, a_tuple_stands_where_it_is,
-    net_deltas_lead_on, tuples_are_ordered, values_are_ordered,
+    a_list_has_one_set, a_tuple_stands_where_it_is, tuples_are_ordered, values_are_ordered,
 };
 pub use rows::Rows;
 pub use tuple::Tuple;
 pub use vt_sorted::Walk;
-// What queries ask a model for, and how it changed.
+// What queries ask a model for.
 pub use base::Base;
-pub use delta::{BaseDelta, Delta};
-pub use deltas::Deltas;
 // Activations of rules, and how an agenda picks one.
 pub use agenda::{Policy, State};
 // Printing.

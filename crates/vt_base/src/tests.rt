@@ -10,18 +10,24 @@ use crate::{
     Rows, RuleId, State, Steps, Text, Tuple, Value,
 };
 use std::alloc::Global;
+use std::cmp::Ordering;
 use std::fmt::Debug;
 use std::marker::Brand;
 use std::process::Abort;
 use std::sync::ledger::{Blank, Ledger};
 use std::test::Fail;
 
-mod deltas;
 mod printing;
+
+// How a text compares with another one, and whether it is that one.
+fn compared(alloc: Global, a: &str, b: &str) -> Result<(Ordering, bool, bool), NoMemory> {
+    let text = Text::new(alloc, a)?;
+    let other = Text::new(alloc, b)?;
+    Ok((text.cmp(&other), text == other, text.is(b)))
+}
 
 #[test]
 fn texts_are_compared_by_their_bytes(rt: HostRuntime) -> Result<(), Fail> {
-    let alloc = rt.alloc();
     // A text comes after each front of it, capital letters before small ones, ASCII before all
     // else. The last two would change places in UTF-16.
     let rising = [
@@ -40,83 +46,102 @@ fn texts_are_compared_by_their_bytes(rt: HostRuntime) -> Result<(), Fail> {
     ];
     for (i, a) in rising.iter().enumerate() {
         for (j, b) in rising.iter().enumerate() {
-            let text = Text::new(alloc, a)?;
-            let other = Text::new(alloc, b)?;
-            assert_eq!(rt; text.cmp(&other), i.cmp(&j), "texts {i} and {j}");
-            assert_eq!(rt; text == other, i == j, "texts {i} and {j}");
-            assert_eq!(rt; text.is(b), i == j, "texts {i} and {j}");
+            let wanted = (i.cmp(&j), i == j, i == j);
+            assert_eq!(rt; compared(rt.alloc(), a, b)?, wanted, "texts {i} and {j}");
         }
     }
-    let text = Text::new(alloc, "room.1")?;
-    let shared = text.share();
-    drop(text);
-    assert_eq!(rt;
-        shared.as_str(),
-        "room.1",
-        "what is shared outlives its first owner"
-    );
     Ok(())
+}
+
+// A text whose first owner is gone.
+fn second_owner(alloc: Global) -> Result<Text, NoMemory> {
+    let text = Text::new(alloc, "room.1")?;
+    Ok(text.share())
+}
+
+#[test]
+fn what_is_shared_outlives_its_first_owner(rt: HostRuntime) -> Result<(), Fail> {
+    assert_eq!(rt; second_owner(rt.alloc())?.as_str(), "room.1");
+    Ok(())
+}
+
+// The numbers 1 to 4, put into a list in each way.
+fn filled(alloc: Global) -> Result<List<u8>, NoMemory> {
+    let mut list = List::new(alloc);
+    list.reserve(1000)?;
+    if list.push(1u8).is_err() {
+        return Err(NoMemory);
+    }
+    list.add(2)?;
+    list.extend(&[3, 4])?;
+    Ok(list)
 }
 
 #[test]
 fn a_list_gives_back_what_was_put_in(rt: HostRuntime) -> Result<(), Fail> {
-    let alloc = rt.alloc();
-    let mut list = List::new(alloc);
-    assert!(rt; list.is_empty());
-    assert_eq!(rt; list.pop(), None);
-    list.reserve(1000)?;
-    assert_eq!(rt; list.len(), 0);
-    assert_eq!(rt; list.push(1u8), Ok(()));
-    list.add(2)?;
-    list.extend(&[3, 4])?;
+    let mut list = filled(rt.alloc())?;
     assert_eq!(rt; list.as_slice(), [1, 2, 3, 4].as_slice());
-    assert_eq!(rt; list.len(), 4);
-    assert!(rt; !list.is_empty());
-    assert_eq!(rt; list.get(0), Some(&1));
-    assert_eq!(rt; list.get(3), Some(&4));
-    assert_eq!(rt; list.get(4), None);
-    assert_eq!(rt; list.pop(), Some(4));
-    assert_eq!(rt; list.as_slice(), [1, 2, 3].as_slice());
+    assert_eq!(rt;
+        [list.get(0), list.get(3), list.get(4)],
+        [Some(&1), Some(&4), None]
+    );
+    assert_eq!(rt; [list.pop(), list.pop()], [Some(4), Some(3)]);
+    assert_eq!(rt; (list.len(), list.is_empty()), (2, false));
+    let mut none = List::<u8>::new(rt.alloc());
+    assert_eq!(rt; (none.pop(), none.is_empty()), (None, true));
+    Ok(())
+}
 
-    let mut roomy = list.into_roomy();
-    assert_eq!(rt; roomy.push(5), Ok(()));
+// The same list with room, with one more number.
+fn filled_with_room(alloc: Global) -> Result<Roomy<u8>, NoMemory> {
+    let mut roomy = filled(alloc)?.into_roomy();
     roomy.reserve(1000)?;
-    assert_eq!(rt; roomy.as_slice(), [1, 2, 3, 5].as_slice());
-    assert_eq!(rt; roomy.len(), 4);
-    assert_eq!(rt; roomy.get(3), Some(&5));
-    assert_eq!(rt; roomy.get(4), None);
-    assert_eq!(rt; roomy.pop(), Some(5));
+    match roomy.push(5) {
+        Ok(()) => Ok(roomy),
+        Err(_) => Err(NoMemory),
+    }
+}
+
+#[test]
+fn a_list_with_room_gives_it_back_too(rt: HostRuntime) -> Result<(), Fail> {
+    let mut roomy = filled_with_room(rt.alloc())?;
+    assert_eq!(rt;
+        [roomy.get(3), roomy.get(4), roomy.get(5)],
+        [Some(&4), Some(&5), None]
+    );
+    assert_eq!(rt; (roomy.pop(), roomy.len()), (Some(5), 4));
+    assert_eq!(rt; roomy.as_slice(), [1, 2, 3, 4].as_slice());
     assert_eq!(rt;
         roomy.into_list().into_vec().as_slice(),
-        [1, 2, 3].as_slice()
+        [1, 2, 3, 4].as_slice()
     );
-
-    let mut none = Roomy::<u8>::new(alloc);
-    assert!(rt; none.is_empty());
-    assert_eq!(rt; none.pop(), None);
-    let some = Roomy::from_vec(Vec::from_slice(alloc, &[6u8])?);
-    assert!(rt; !some.is_empty());
+    let mut none = Roomy::<u8>::new(rt.alloc());
+    assert_eq!(rt; (none.pop(), none.is_empty()), (None, true));
+    assert!(rt; !Roomy::from_vec(Vec::from_slice(rt.alloc(), &[6u8])?).is_empty());
     Ok(())
 }
 
 // One value of each kind and more, in rising order.
-fn rising_values(alloc: Global) -> Result<List<Value>, NoMemory> {
-    let mut values = List::new(alloc);
-    values.add(Value::Bool(false))?;
-    values.add(Value::Bool(true))?;
-    values.add(Value::Int(i64::MIN))?;
-    values.add(Value::Int(-1))?;
-    values.add(Value::Int(0))?;
-    values.add(Value::Int(10))?;
-    values.add(Value::Text(Text::new(alloc, "")?))?;
-    values.add(Value::Text(Text::new(alloc, "10")?))?;
-    values.add(Value::Text(Text::new(alloc, "9")?))?;
-    values.add(Value::Enum(0, 0))?;
-    values.add(Value::Enum(0, 9))?;
-    values.add(Value::Enum(1, 0))?;
-    values.add(Value::Obj(ObjId(0)))?;
-    values.add(Value::Obj(ObjId(10)))?;
-    Ok(values)
+fn rising_values(alloc: Global) -> Result<[Value; 14], NoMemory> {
+    let none = Text::new(alloc, "")?;
+    let ten = Text::new(alloc, "10")?;
+    let nine = Text::new(alloc, "9")?;
+    Ok([
+        Value::Bool(false),
+        Value::Bool(true),
+        Value::Int(i64::MIN),
+        Value::Int(-1),
+        Value::Int(0),
+        Value::Int(10),
+        Value::Text(none),
+        Value::Text(ten),
+        Value::Text(nine),
+        Value::Enum(0, 0),
+        Value::Enum(0, 9),
+        Value::Enum(1, 0),
+        Value::Obj(ObjId(0)),
+        Value::Obj(ObjId(10)),
+    ])
 }
 
 // Each item is below those that follow it, and equal to itself alone.
@@ -149,10 +174,17 @@ fn ascending_tuples(alloc: Global) -> Result<List<Tuple>, NoMemory> {
 }
 
 #[test]
-fn values_and_tuples_are_ordered(rt: HostRuntime) -> Result<(), Fail> {
+fn values_are_ordered_and_copied(rt: HostRuntime) -> Result<(), Fail> {
     let values = rising_values(rt.alloc())?;
-    assert_ascending(&rt, values.as_slice());
-    assert_eq!(rt; values.copy(rt.alloc())?.as_slice(), values.as_slice());
+    assert_ascending(&rt, &values);
+    for value in values.iter() {
+        assert_eq!(rt; value.copy(rt.alloc())?, *value);
+    }
+    Ok(())
+}
+
+#[test]
+fn tuples_are_ordered(rt: HostRuntime) -> Result<(), Fail> {
     let tuples = ascending_tuples(rt.alloc())?;
     assert_ascending(&rt, tuples.as_slice());
     Ok(())
@@ -166,21 +198,29 @@ fn rows_of(alloc: Global, tuples: &[Tuple]) -> Result<Rows, NoMemory> {
             given.push(t.copy(alloc)?)?;
         }
     }
-    Rows::from_vec(alloc, given)
+    Rows::from_vec(alloc, given)?.copy(alloc)
 }
 
 #[test]
 fn rows_ascend_and_none_comes_twice(rt: HostRuntime) -> Result<(), Fail> {
     let tuples = ascending_tuples(rt.alloc())?;
-    let rows = rows_of(rt.alloc(), tuples.as_slice())?.copy(rt.alloc())?;
-    assert_eq!(rt; rows.len(), tuples.len());
-    for (i, tuple) in tuples.as_slice().iter().enumerate() {
-        assert_eq!(rt; rows.get(i), Some(tuple));
+    let rows = rows_of(rt.alloc(), tuples.as_slice())?;
+    for i in 0..8 {
+        assert_eq!(rt; rows.get(i), tuples.get(i));
     }
-    assert_eq!(rt; rows.get(6), tuples.get(6));
-    assert_eq!(rt; rows.get(7), None);
-    assert_eq!(rt; rows.len(), 7);
-    assert!(rt; !rows.is_empty() && Rows::new(rt.alloc()).is_empty());
+    assert_eq!(rt; (rows.len(), rows.is_empty()), (7, false));
+    assert!(rt; Rows::new(rt.alloc()).is_empty());
+    Ok(())
+}
+
+// Whether a tuple of numbers stands in the rows.
+fn stands(alloc: Global, rows: &Rows, values: &[i64]) -> Result<bool, NoMemory> {
+    Ok(rows.contains(&numbers(alloc, values)?))
+}
+
+#[test]
+fn rows_tell_which_tuples_stand(rt: HostRuntime) -> Result<(), Fail> {
+    let rows = rows_of(rt.alloc(), ascending_tuples(rt.alloc())?.as_slice())?;
     let asked: [(&[i64], bool); 5] = [
         (&[], true),
         (&[10, 2], true),
@@ -188,14 +228,17 @@ fn rows_ascend_and_none_comes_twice(rt: HostRuntime) -> Result<(), Fail> {
         (&[0, 2], false),
         (&[11], false),
     ];
-    for (values, stands) in asked {
-        assert_eq!(rt; rows.contains(&numbers(rt.alloc(), values)?), stands);
+    for (values, there) in asked {
+        assert_eq!(rt; stands(rt.alloc(), &rows, values)?, there);
     }
+    Ok(())
+}
+
+#[test]
+fn a_tuple_of_five_values_is_kept_and_copied(rt: HostRuntime) -> Result<(), Fail> {
     let long = numbers(rt.alloc(), &[3, 4, 5, 6, 7])?.copy(rt.alloc())?;
-    assert_eq!(rt; long.get(4), Some(&Value::Int(7)));
-    assert_eq!(rt; long.get(5), None);
-    assert_eq!(rt; long.len(), 5);
-    assert!(rt; !long.is_empty());
+    assert_eq!(rt; [long.get(4), long.get(5)], [Some(&Value::Int(7)), None]);
+    assert_eq!(rt; (long.len(), long.is_empty()), (5, false));
     Ok(())
 }
 

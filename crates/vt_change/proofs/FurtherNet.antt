@@ -6,13 +6,13 @@ use Rattle.std.specs.Ordering.{eq_by_cmp}
 use Rattle.vt_sorted.specs.Ascending.{with_item, without_item}
 use Rattle.vt_base.specs.Order.{tuple_cmp}
 use Rattle.vt_base.specs.Rows.{Ascends, has_row}
-use Rattle.vt_base.specs.Changes.{net, without, after_coming, after_going}
+use Rattle.vt_delta.specs.Changes.{net, without, after_coming, after_going}
 use Rattle.vt_base.specs.declared.value.Value.{Value}
 use Rattle.vt_base.specs.Inside.OrderLaws.{IsTotalOrder-tuple_cmp}
 use Rattle.vt_base.proofs.OrderLemmas.{exact-tuple_cmp, eq_by_cmp-Decides}
 use Rattle.vt_base.proofs.RowsLemmas.{first_below, rest_ascends, has-below}
-use Rattle.vt_base.proofs.DeltaLemmas.{same_row, has-without, has-with_item, has-without_item, Ascends-without, Ascends-with_item, Ascends-without_item, applied-net}
-use Rattle.vt_base.proofs.NetLemmas.{after_coming-net, after_going-net, removed_all}
+use Rattle.vt_delta.proofs.DeltaLemmas.{same_row, has-without, has-with_item, has-without_item, Ascends-without, Ascends-with_item, Ascends-without_item, applied-net}
+use Rattle.vt_delta.proofs.NetLemmas.{after_coming-net, after_going-net, removed_all}
 
 is_first : (q : List Value) (rows : List (List Value)) → has_row (q ∷ rows) q ≡ true
 is_first q rows = ap (λ b. b || has_row rows q) ((eq_by_cmp-Decides IsTotalOrder-tuple_cmp exact-tuple_cmp q q).1 refl)

@@ -11,7 +11,7 @@ use Rattle.std.proofs.lemmas.Cmp.{on_total, nat_cmp_total}
 use Rattle.vt_facts.proofs.RisingLemmas.{tied_is}
 use Rattle.vt_facts.proofs.ChosenLemmas.{filter-all}
 use Rattle.vt_base.specs.Rows.{Ascends}
-use Rattle.vt_base.specs.Changes
+use Rattle.vt_delta.specs.Changes
 use Rattle.vt_base.specs.declared.numbers.ObjId.{ObjId}
 use Rattle.vt_base.specs.declared.value.Value.{Value}
 use Rattle.vt_base.specs.declared.value.Value.TheVariants.{Obj, Int}

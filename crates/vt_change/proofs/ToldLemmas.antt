@@ -12,14 +12,14 @@ use Rattle.std.proofs.lemmas.List.Elements.{All-weaker, All-filter}
 use Rattle.vt_facts.proofs.ChosenLemmas.{filter-all}
 use Rattle.vt_base.specs.Order.{tuple_cmp}
 use Rattle.vt_base.specs.Rows.{Ascends}
-use Rattle.vt_base.specs.Changes as changes
-use Rattle.vt_base.specs.Changes.{no_change, change_of, changes_of, net}
-use Rattle.vt_base.specs.Deltas.{HasCounts, AreEach, IsNet}
-use Rattle.vt_base.specs.declared.delta.Delta.{Delta}
-use Rattle.vt_base.specs.declared.delta.BaseDelta.{BaseDelta}
+use Rattle.vt_delta.specs.Changes as changes
+use Rattle.vt_delta.specs.Changes.{no_change, change_of, changes_of, net}
+use Rattle.vt_delta.specs.Deltas.{HasCounts, AreEach, IsNet}
+use Rattle.vt_delta.specs.declared.delta.Delta.{Delta}
+use Rattle.vt_delta.specs.declared.delta.BaseDelta.{BaseDelta}
 use Rattle.vt_base.specs.declared.value.Value.{Value}
 use Rattle.vt_base.specs.declared.value.Value.TheVariants.{Obj, Int}
-use Rattle.vt_base.proofs.DeltaLemmas.{net-itself}
+use Rattle.vt_delta.proofs.DeltaLemmas.{net-itself}
 use Rattle.vt_model.specs.Metamodel.{Metamodel}
 use Rattle.vt_model.specs.Model.{Model}
 use Rattle.vt_model.specs.Base.{counts_of, base_of}

@@ -11,7 +11,7 @@ use Rattle.std.specs.Cmp.{IsTotalOrder}
 use Rattle.vt_facts.proofs.BoolLemmas.{and_left, and_right}
 use Rattle.vt_facts.proofs.MemberLemmas.{Contains-map, Contains-from_map, Contains-find, find-some, Contains-filter, Contains-from_filter}
 use Rattle.vt_facts.proofs.ChosenLemmas.{Contains-filter_map, Contains-from_filter_map}
-use Rattle.vt_base.specs.Changes.{net}
+use Rattle.vt_delta.specs.Changes.{net}
 use Rattle.vt_base.specs.declared.numbers.ObjId.{ObjId}
 use Rattle.vt_base.specs.declared.value.Value.{Value}
 use Rattle.vt_base.specs.declared.value.Value.TheVariants.{Obj, Int}

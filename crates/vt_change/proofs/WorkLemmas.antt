@@ -1,8 +1,8 @@
 -- A transaction under way goes on with each change, and can go back at any time.
 use Rattle.std.proofs.Common.{◌≡◌, ◌≤◌, ◌<◌, ◌+◌, ℕ, List, [], ◌∷◌, ◌++◌, refl, sym, ap, subst, ◌∙◌, ◌⊎◌, inl, inr, arith, reverse}
 use Rattle.std.specs.Prelude.{Contains, Result, Ok, Err}
-use Rattle.vt_base.specs.Deltas.{HasCounts}
-use Rattle.vt_base.specs.Changes.{change_of}
+use Rattle.vt_delta.specs.Deltas.{HasCounts}
+use Rattle.vt_delta.specs.Changes.{change_of}
 use Rattle.vt_base.specs.declared.numbers.ObjId.{ObjId}
 use Rattle.vt_model.specs.Metamodel.{Metamodel}
 use Rattle.vt_model.specs.Model.{Model}

@@ -1,6 +1,6 @@
 -- What a store answers to a transaction, and what it leaves.
 use Rattle.std.specs.Prelude.{◌≡◌, ℕ, List, IfOk, OnOk, OnErr, Result, Ok, Err}
-use Rattle.vt_base.specs.Deltas.{IsNet}
+use Rattle.vt_delta.specs.Deltas.{IsNet}
 use Rattle.vt_model.specs.Base.{base_of}
 use Rattle.vt_model.specs.Touched.{AreTouched}
 use Rattle.vt_model.specs.Transaction.{transaction}

@@ -4,7 +4,8 @@ ghost use Rattle.vt_graph.specs.Held.{Held};
 ghost use Rattle.vt_change.specs.Leading.{IsBack, LeadsBack, CanUndo};
 
 use crate::returning::take_back;
-use vt_base::{BaseDelta, List, ObjId};
+use vt_base::{List, ObjId};
+use vt_delta::BaseDelta;
 use vt_store::{Edit, Store};
 
 /// What a transaction did to a store.

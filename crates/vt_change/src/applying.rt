@@ -1,6 +1,6 @@
 // A transaction that is made as a whole, or not at all.
 ghost use Rattle.std.specs.Prelude.{◌≡◌, ◌<◌, ◌^◌, ℕ, [], length, reverse, Ok, Err, OnOk, IfOk};
-ghost use Rattle.vt_base.specs.Deltas.{IsNet};
+ghost use Rattle.vt_delta.specs.Deltas.{IsNet};
 ghost use Rattle.vt_model.specs.Base.{base_of};
 ghost use Rattle.vt_model.specs.Touched.{AreTouched};
 ghost use Rattle.vt_model.specs.Transaction.{transaction};
@@ -15,7 +15,8 @@ use crate::telling::Told;
 use crate::working::make_all;
 use crate::{Applied, ApplyFault};
 use std::alloc::Global;
-use vt_base::{BaseDelta, List, ObjId};
+use vt_base::{List, ObjId};
+use vt_delta::BaseDelta;
 use vt_model::Change;
 use vt_store::{Edit, Store};
 

@@ -1,11 +1,12 @@
 // The objects that rows name, of those that lived before and live still.
 ghost use Rattle.std.specs.Prelude.{◌≡◌, ◌++◌, OnOk, IfOk};
 ghost use Rattle.std.specs.List.{filter_map};
-ghost use Rattle.vt_base.specs.Changes.{change_of};
+ghost use Rattle.vt_delta.specs.Changes.{change_of};
 ghost use Rattle.vt_change.specs.Inside.Naming.{object_named, all_named, IsInOrder};
 
 use std::alloc::Global;
-use vt_base::{Delta, List, NoMemory, ObjId, Rows, Tuple, Value};
+use vt_base::{List, NoMemory, ObjId, Rows, Tuple, Value};
+use vt_delta::Delta;
 use vt_store::Store;
 
 // The object that a row names first, if it is live and its number was given away before.

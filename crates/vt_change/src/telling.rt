@@ -1,11 +1,12 @@
 // The net change of a model's rows, kept while edits are made one after the other.
 ghost use Rattle.std.specs.Prelude.{◌≡◌, ◌<◌, [], ◌∷◌, length, map, fold, All, OnOk};
-ghost use Rattle.vt_base.specs.Changes.{change_of, changes_of, turned_at};
+ghost use Rattle.vt_delta.specs.Changes.{change_of, changes_of, turned_at};
 ghost use Rattle.vt_model.specs.Model.{Model};
 ghost use Rattle.vt_change.specs.Inside.Telling.{object_rows, value_rows, link_rows, whole_rows, moved, turned, Moves, Turns, HasPlaces, Tells, IsTold};
 
 use std::alloc::Global;
-use vt_base::{BaseDelta, ClassId, Delta, Deltas, NoMemory, Tuple, Value};
+use vt_base::{ClassId, NoMemory, Tuple, Value};
+use vt_delta::{BaseDelta, Delta, Deltas};
 use vt_graph::Buried;
 use vt_model::{AttributeValue, Link, Metamodel, Object};
 use vt_store::Edit;
@@ -190,30 +191,12 @@ pub(crate) fn tell(
 {
     let delta = &mut told.delta;
     tell_objects(&mut delta.classes, alloc, meta, edit)?;
-    tell_values(
-        &mut delta.attributes,
-        alloc,
-        Way::Going,
-        edit.values_removed(),
-    )?;
-    tell_values(
-        &mut delta.attributes,
-        alloc,
-        Way::Coming,
-        edit.values_added(),
-    )?;
-    tell_links(
-        &mut delta.references,
-        alloc,
-        Way::Going,
-        edit.links_removed(),
-    )?;
-    tell_links(
-        &mut delta.references,
-        alloc,
-        Way::Coming,
-        edit.links_added(),
-    )?;
-    tell_whole(&mut told.values, alloc, Way::Going, edit.values_removed())?;
-    tell_whole(&mut told.values, alloc, Way::Coming, edit.values_added())
+    let (came, went) = edit.values();
+    tell_values(&mut delta.attributes, alloc, Way::Going, went)?;
+    tell_values(&mut delta.attributes, alloc, Way::Coming, came)?;
+    tell_whole(&mut told.values, alloc, Way::Going, went)?;
+    tell_whole(&mut told.values, alloc, Way::Coming, came)?;
+    let (came, went) = edit.links();
+    tell_links(&mut delta.references, alloc, Way::Going, went)?;
+    tell_links(&mut delta.references, alloc, Way::Coming, came)
 }

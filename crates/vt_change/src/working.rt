@@ -1,6 +1,6 @@
 // Changes that are made one after the other.
 ghost use Rattle.std.specs.Prelude.{◌≡◌, ◌<◌, ◌^◌, ℕ, length, reverse, Ok, Err, OnOk};
-ghost use Rattle.vt_base.specs.Deltas.{HasCounts};
+ghost use Rattle.vt_delta.specs.Deltas.{HasCounts};
 ghost use Rattle.vt_model.specs.Base.{counts_of};
 ghost use Rattle.vt_model.specs.Effect.{effect};
 ghost use Rattle.vt_model.specs.Transaction.{transaction};

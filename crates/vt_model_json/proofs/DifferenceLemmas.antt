@@ -1,6 +1,6 @@
 -- Deltas that are added one after the other.
 use Rattle.std.proofs.Common.{◌≡◌, ℕ, zero, suc, List, [], ◌∷◌, ◌++◌, length, refl, sym, ap, subst, ◌∙◌, ◌⊎◌, inl, inr, slice_get, Some}
-use Rattle.vt_base.specs.declared.delta.Delta.{Delta}
+use Rattle.vt_delta.specs.declared.delta.Delta.{Delta}
 use Rattle.vt_base.specs.declared.value.Value.{Value}
 use Rattle.vt_model_json.specs.Difference.{IsAllAdded, AreAllAdded}
 

@@ -1,8 +1,8 @@
 -- The difference of a model from the empty one: what it has was added, and nothing was removed.
 use Rattle.std.specs.Prelude.{◌≡◌, ℕ, List, [], length, Some, slice_get}
 use Rattle.vt_base.specs.Base.{BaseRows}
-use Rattle.vt_base.specs.declared.delta.BaseDelta.{BaseDelta}
-use Rattle.vt_base.specs.declared.delta.Delta.{Delta}
+use Rattle.vt_delta.specs.declared.delta.BaseDelta.{BaseDelta}
+use Rattle.vt_delta.specs.declared.delta.Delta.{Delta}
 use Rattle.vt_base.specs.declared.value.Value.{Value}
 
 -- exactly these rows were added

@@ -7,7 +7,8 @@ ghost use Rattle.vt_model_json.specs.Inside.Parts.{count_of, rows_of};
 use std::alloc::Global;
 use std::marker::Brand;
 use std::sync::ledger::{Blank, Ledger};
-use vt_base::{AttrId, Base, BaseDelta, ClassId, Delta, List, NoMemory, RefId, Rows, Steps};
+use vt_base::{AttrId, Base, ClassId, List, NoMemory, RefId, Rows, Steps};
+use vt_delta::{BaseDelta, Delta};
 use vt_store::Store;
 
 // The delta that adds rows.

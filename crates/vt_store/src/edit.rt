@@ -117,6 +117,7 @@ impl Edit {
             links_removed: removed,
         }
     }
+
     // What a deletion did.
     pub(crate) fn of_deletion(
         alloc: Global,
@@ -163,31 +164,19 @@ impl Edit {
         self.deleted.as_slice()
     }
 
-    /// The values that came.
-    pub fn values_added(&self) -> &[AttributeValue]
-        ensures { result.now ≡ self.now.edit.values.added }
+    /// The values that came, and those that went.
+    pub fn values(&self) -> (&[AttributeValue], &[AttributeValue])
+        ensures came { result.0.now ≡ self.now.edit.values.added }
+        ensures went { result.1.now ≡ self.now.edit.values.removed }
     {
-        self.values_added.as_slice()
+        (self.values_added.as_slice(), self.values_removed.as_slice())
     }
 
-    /// The values that went.
-    pub fn values_removed(&self) -> &[AttributeValue]
-        ensures { result.now ≡ self.now.edit.values.removed }
+    /// The links that came, and those that went.
+    pub fn links(&self) -> (&[Link], &[Link])
+        ensures came { result.0.now ≡ self.now.edit.links.added }
+        ensures went { result.1.now ≡ self.now.edit.links.removed }
     {
-        self.values_removed.as_slice()
-    }
-
-    /// The links that came.
-    pub fn links_added(&self) -> &[Link]
-        ensures { result.now ≡ self.now.edit.links.added }
-    {
-        self.links_added.as_slice()
-    }
-
-    /// The links that went.
-    pub fn links_removed(&self) -> &[Link]
-        ensures { result.now ≡ self.now.edit.links.removed }
-    {
-        self.links_removed.as_slice()
+        (self.links_added.as_slice(), self.links_removed.as_slice())
     }
 }

@@ -1,8 +1,8 @@
 -- How the net change of a model's rows is kept, while edits are made one after the other.
 use Rattle.std.specs.Prelude.{◌≡◌, ℕ, ◌<◌, ◌==◌, pos, List, [], ◌∷◌, map, filter, fold, length, slice_index_or, All}
-use Rattle.vt_base.specs.Changes.{Change, change_of, changes_of, no_change, net, after_coming, after_going}
-use Rattle.vt_base.specs.Deltas.{HasCounts}
-use Rattle.vt_base.specs.declared.delta.Delta.{Delta}
+use Rattle.vt_delta.specs.Changes.{Change, change_of, changes_of, no_change, net, after_coming, after_going}
+use Rattle.vt_delta.specs.Deltas.{HasCounts}
+use Rattle.vt_delta.specs.declared.delta.Delta.{Delta}
 use Rattle.vt_base.specs.declared.value.Value.{Value}
 use Rattle.vt_base.specs.declared.value.Value.TheVariants.{Obj, Int}
 use Rattle.vt_model.specs.Metamodel.{Metamodel, isa}

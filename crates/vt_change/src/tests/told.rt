@@ -1,12 +1,13 @@
 // What a transaction told, and what a store has, as text.
 ghost use Rattle.std.specs.Prelude.{◌≡◌};
-ghost use Rattle.vt_base.specs.Deltas.{HasCounts};
+ghost use Rattle.vt_delta.specs.Deltas.{HasCounts};
 ghost use Rattle.vt_model.specs.Base.{counts_of};
 
 use crate::Applied;
 use std::alloc::Global;
 use std::test::Fail;
-use vt_base::{AttrId, BaseDelta, ClassId, Delta, NoMemory, ObjId, RefId, Rows, Value};
+use vt_base::{AttrId, ClassId, NoMemory, ObjId, RefId, Rows, Value};
+use vt_delta::{BaseDelta, Delta};
 use vt_model::Metamodel;
 use vt_store::Store;
 

@@ -6,7 +6,8 @@ use super::metamodel;
 use crate::read_model;
 use std::alloc::Global;
 use std::test::Fail;
-use vt_base::{AttrId, BaseDelta, ClassId, Delta, NoMemory, RefId, Value};
+use vt_base::{AttrId, ClassId, NoMemory, RefId, Value};
+use vt_delta::{BaseDelta, Delta};
 
 // A wolf, which is the friend of a pet and of itself, and the pet.
 const WOLF_AND_PET: &str = concat!(

@@ -1,5 +1,5 @@
 use Rattle.std.proofs.Common.{subst}
-use Rattle.vt_base.specs.Changes.{change_of}
+use Rattle.vt_delta.specs.Changes.{change_of}
 use Rattle.vt_change.specs.Inside.Telling.{IsTold}
 use Rattle.vt_change.specs.Inside.Naming.{all_named, IsInOrder}
 use Rattle.vt_change.proofs.ToldLemmas.{IsNet-told}

@@ -1,6 +1,6 @@
 use Rattle.std.proofs.Common.{◌≡◌, drop}
 use Rattle.std.specs.Prelude.{fold}
-use Rattle.vt_base.specs.Changes.{change_of}
+use Rattle.vt_delta.specs.Changes.{change_of}
 use Rattle.vt_change.specs.Inside.Telling.{whole_rows, moved}
 use Rattle.vt_change.proofs.telling.tell_whole.Given as goal
 

@@ -1,5 +1,5 @@
 use Rattle.std.proofs.Common.{◌≡◌, length, replicate}
-use Rattle.vt_base.specs.Changes.{no_change, changes_of}
+use Rattle.vt_delta.specs.Changes.{no_change, changes_of}
 use Rattle.vt_change.proofs.ToldLemmas.{IsTold-none}
 use Rattle.vt_change.proofs.telling.Told.new.Goals as goal
 

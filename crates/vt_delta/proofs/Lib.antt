@@ -1,0 +1,4 @@
+pub mod DeltaLemmas
+pub mod NetLemmas
+pub mod KeptLemmas
+pub mod EachLemmas
