@@ -16,14 +16,17 @@ use Rattle.vt_vql.specs.declared.fault.QueryFault.{QueryFault}
 use Rattle.vt_vql.specs.declared.fault.QueryFault.TheVariants.{NoMemory}
 use Rattle.vt_cli.specs.Command.{Command, command_of}
 use Rattle.vt_cli.specs.Lists.{match_lists}
-use Rattle.vt_cli.specs.Refusals.{refused_queries}
+use Rattle.vt_script.specs.Script.{script_of}
+use Rattle.vt_script.specs.declared.line.Line.{Line}
+use Rattle.vt_cli.specs.Refusals.{refused_queries, refused_rules, refused_script}
 use Rattle.vt_cli.specs.Texts.{texts_of, text_of}
-use Rattle.vt_cli.specs.Result.{loaded_from, shown, done, IsListed, IsMatched, IsRefused, IsDueTo, IsDueToModel, IsDueToTexts, IsDueToCommand, IsDue, Loaded}
+use Rattle.vt_cli.specs.Result.{loaded_from, shown, done, IsListed, IsTold, IsRunOf, IsOfProgram, IsRefused, IsDueTo, IsDueToQueries, IsDueToModel, IsDueToTexts, IsDueToCommand, IsDue, Loaded}
 use Rattle.vt_cli.specs.declared.command.Task.{Task}
-use Rattle.vt_cli.specs.declared.command.Task.TheVariants.{Show, Matches}
+use Rattle.vt_cli.specs.declared.command.Task.TheVariants.{Show, Matches, Run}
 use Rattle.vt_cli.specs.declared.ending.Role.{Role}
 use Rattle.vt_cli.specs.declared.ending.Role.TheVariants as role
 use Rattle.vt_cli.specs.declared.ending.Outcome.{Outcome}
+use Rattle.vt_cli.proofs.OneTextLemmas.{one_text}
 
 -- ---- what the crates below promise
 
@@ -64,41 +67,57 @@ module _ (below : Below) (l : Loaded) (bytes : List ℕ) where
       let same = below.one_fault l.meta bytes a.fault b.fault (has_outcome a.fault outcome a.is) (has_outcome b.fault other b.is) a.stands b.stands in
       some_same outcome other (sym a.is ∙ ap refused_queries same ∙ b.is)
 
-  -- ---- match lists
+  -- ---- what is due to a program
 
-  one_listing : (program : Program) → IsAcyclic program → IsAtMostOne (IsListed l program)
-  one_listing program acyclic outcome other a b =
-      let same = below.one_list l.meta l.model program a.tables b.tables acyclic a.stand b.stand in
-      a.is ∙ ap (λ tables. done (match_lists (enum_names l.meta) (all_names l.model) program.patterns tables)) same ∙ sym b.is
+  module _ (due_to : Program → Outcome → Type 0) (one : (program : Program) → IsAcyclic program → IsAtMostOne (due_to program)) where
+    one_of_program : IsAtMostOne (IsOfProgram l bytes due_to)
+    one_of_program outcome other a b =
+        let same = below.one_program l.meta bytes b.program a.program b.accepts a.accepts in
+        let acyclic = below.acyclic (counts_of l.meta) a.program (below.narrow l.meta bytes a.program a.accepts) in
+        one a.program acyclic outcome other a.due (subst (λ program. due_to program other) same b.due)
 
-  one_match : IsAtMostOne (IsMatched l bytes)
-  one_match outcome other a b =
-      let same = below.one_program l.meta bytes b.program a.program b.accepts a.accepts in
-      let acyclic = below.acyclic (counts_of l.meta) a.program (below.narrow l.meta bytes a.program a.accepts) in
-      one_listing a.program acyclic outcome other a.listed (subst (λ program. IsListed l program other) same b.listed)
+    -- a file that spells a program is not refused
+    not_both : (outcome other : Outcome) → IsOfProgram l bytes due_to outcome → IsRefused l bytes other → ⊥
+    not_both outcome other a b = below.no_fault l.meta bytes a.program b.fault a.accepts (has_outcome b.fault other b.is) b.stands
 
-  -- a file that is matched is not refused
-  not_both : (outcome other : Outcome) → IsMatched l bytes outcome → IsRefused l bytes other → ⊥
-  not_both outcome other a b = below.no_fault l.meta bytes a.program b.fault a.accepts (has_outcome b.fault other b.is) b.stands
+    one_answer : IsAtMostOne (IsDueToQueries l bytes due_to)
+    one_answer outcome other (inl a) (inl b) = one_of_program outcome other a b
+    one_answer outcome other (inl a) (inr b) = absurd (not_both outcome other a b)
+    one_answer outcome other (inr a) (inl b) = absurd (not_both other outcome b a)
+    one_answer outcome other (inr a) (inr b) = one_refusal outcome other a b
 
-  abbrev IsMatchedOrRefused : Outcome → Type 0
-  IsMatchedOrRefused outcome = IsMatched l bytes outcome ⊎ IsRefused l bytes outcome
+-- ---- match lists
 
-  one_answer : IsAtMostOne IsMatchedOrRefused
-  one_answer outcome other (inl a) (inl b) = one_match outcome other a b
-  one_answer outcome other (inl a) (inr b) = absurd (not_both outcome other a b)
-  one_answer outcome other (inr a) (inl b) = absurd (not_both other outcome b a)
-  one_answer outcome other (inr a) (inr b) = one_refusal outcome other a b
+one_listing : Below → (l : Loaded) (program : Program) → IsAcyclic program → IsAtMostOne (IsListed l program)
+one_listing below l program acyclic outcome other a b =
+    let same = below.one_list l.meta l.model program a.tables b.tables acyclic a.stand b.stand in
+    a.is ∙ ap (λ tables. done (match_lists (enum_names l.meta) (all_names l.model) program.patterns tables)) same ∙ sym b.is
+
+-- ---- runs
+
+one_run : Below → (l : Loaded) (program : Program) (lines : List Line) → IsAcyclic program → IsAtMostOne (IsTold l program lines)
+one_run below l program lines acyclic outcome other a b =
+    a.is ∙ ap done (one_text (record { meta = l.meta; program = program }) (λ g tables others s t. below.one_list l.meta g program tables others acyclic s t) l.model lines a.text b.text a.run b.run) ∙ sym b.is
+
+one_due_to_program : Below → (l : Loaded) (texts : List (Role × List ℕ)) (program : Program) → IsAcyclic program → IsAtMostOne (IsRunOf l texts program)
+one_due_to_program below l texts program acyclic =
+    let script = refused_script (script_of (text_of role.Script texts)) in
+    let told : List Line → Outcome → Type 0 = λ lines due. IsTold l program lines due in
+    one_due (refused_rules (text_of role.Rules texts)) (λ rules o. IsDueTo script told o)
+    (λ rules. one_due script told (λ lines. one_run below l program lines acyclic))
 
 -- ---- commands
 
 one_shown : (l : Loaded) → IsAtMostOne (λ o. o ≡ shown l)
 one_shown l outcome other e f = e ∙ sym f
 
+one_due_to_model : Below → (task : Task) (texts : List (Role × List ℕ)) (l : Loaded) → IsAtMostOne (IsDueToModel task l texts)
+one_due_to_model below Show texts l = one_shown l
+one_due_to_model below Matches texts l = one_answer below l (text_of role.Queries texts) (IsListed l) (one_listing below l)
+one_due_to_model below Run texts l = one_answer below l (text_of role.Queries texts) (IsRunOf l texts) (one_due_to_program below l texts)
+
 one_due_to_texts : Below → (task : Task) (texts : List (Role × List ℕ)) → IsAtMostOne (IsDueToTexts task texts)
-one_due_to_texts below Show texts = one_due (loaded_from texts) (λ l o. IsDueToModel Show l texts o) one_shown
-one_due_to_texts below Matches texts =
-    one_due (loaded_from texts) (λ l o. IsDueToModel Matches l texts o) (λ l. one_answer below l (text_of role.Queries texts))
+one_due_to_texts below task texts = one_due (loaded_from texts) (λ l o. IsDueToModel task l texts o) (one_due_to_model below task texts)
 
 one_due_to_command : Below → (command : Option Command) (known : NamedFiles) → IsAtMostOne (IsDueToCommand command known)
 one_due_to_command below None known outcome other e f = e ∙ sym f

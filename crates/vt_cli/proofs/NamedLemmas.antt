@@ -13,7 +13,7 @@ still_some : {X Y : Type 0} (f : X → Y) (r s : Option X) → IsSome (option_ma
 still_some f (Some x) s there = there
 still_some f None s there = absurd (let none : ⊥ = cc in none)
 
-each_weaker : {X : Type 0} (P Q : X → Type 0) → ((x : X) → P x → Q x) → (xs : List X) → AllByRecursion P xs → AllByRecursion Q xs
+pub each_weaker : {X : Type 0} (P Q : X → Type 0) → ((x : X) → P x → Q x) → (xs : List X) → AllByRecursion P xs → AllByRecursion Q xs
 each_weaker P Q weaker [] each = tt
 each_weaker P Q weaker (x ∷ xs) each = (weaker x each.0, each_weaker P Q weaker xs each.1)
 

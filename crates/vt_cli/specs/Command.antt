@@ -2,9 +2,9 @@
 use Rattle.std.specs.Prelude.{ℕ, List, [], ◌∷◌, length, zip, codes, nat_eq, if◌then◌else◌, Option, Some, None, option_and_then}
 use Rattle.std.specs.Cmp.Lexicographic.{pointwise}
 use Rattle.vt_cli.specs.declared.command.Task.{Task}
-use Rattle.vt_cli.specs.declared.command.Task.TheVariants.{Show, Matches}
+use Rattle.vt_cli.specs.declared.command.Task.TheVariants.{Show, Matches, Run}
 use Rattle.vt_cli.specs.declared.ending.Role.{Role}
-use Rattle.vt_cli.specs.declared.ending.Role.TheVariants.{Metamodel, Model, Queries}
+use Rattle.vt_cli.specs.declared.ending.Role.TheVariants.{Metamodel, Model, Queries, Rules, Script}
 use Rattle.vt_cli.specs.declared.ending.Ending.{Ending}
 use Rattle.vt_cli.specs.declared.ending.Ending.TheVariants.{Done, Usage, BadInput, Missing, ReadFault, NoMemory, WriteFault, TooLarge}
 
@@ -15,17 +15,20 @@ abbrev pub task_of : List ℕ → Option Task
 task_of word =
     if pointwise nat_eq word (codes "show") then Some Show
     else if pointwise nat_eq word (codes "matches") then Some Matches
+    else if pointwise nat_eq word (codes "run") then Some Run
     else None
 
 -- what the other words name: the files, in their order; no two are the same to a command
 abbrev pub roles_of : Task → List Role
 roles_of Show = Metamodel ∷ Model ∷ []
 roles_of Matches = Metamodel ∷ Model ∷ Queries ∷ []
+roles_of Run = Metamodel ∷ Model ∷ Queries ∷ Rules ∷ Script ∷ []
 
 -- whether the model is asked for no rows
 abbrev pub IsWithoutRows : Task → Type 0
 IsWithoutRows Show = Unit {0}
 IsWithoutRows Matches = ⊥
+IsWithoutRows Run = ⊥
 
 -- ---- words
 

@@ -1,13 +1,15 @@
 -- The line that tells a fault.
 use Rattle.std.specs.Prelude.{ℕ, List, ◌++◌, codes, decimal}
 use Rattle.vt_cli.specs.declared.ending.Role.{Role}
-use Rattle.vt_cli.specs.declared.ending.Role.TheVariants.{Metamodel, Model, Queries}
+use Rattle.vt_cli.specs.declared.ending.Role.TheVariants.{Metamodel, Model, Queries, Rules, Script}
 
 -- how a line names a file
 abbrev pub role_text : Role → List ℕ
 role_text Metamodel = codes "metamodel"
 role_text Model = codes "model"
 role_text Queries = codes "queries"
+role_text Rules = codes "rules"
+role_text Script = codes "script"
 
 -- the words are no command
 abbrev pub usage_line : List ℕ

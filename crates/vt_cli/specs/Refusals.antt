@@ -1,14 +1,17 @@
 -- The outcome of a file that is refused: its fault's code, name and place.
-use Rattle.std.specs.Prelude.{ℕ, ◌+◌, List, codes, Option, Some, None, Result, Ok, Err}
+use Rattle.std.specs.Prelude.{ℕ, ◌+◌, List, [], codes, Option, Some, None, Result, Ok, Err}
 use Rattle.vt_model.specs.Metamodel.{Metamodel}
 use Rattle.vt_model.specs.Model.{Model}
 use Rattle.vt_meta.specs.Faults as metamodel
 use Rattle.vt_model.specs.declared.change.Refusal.{Refusal}
 use Rattle.vt_model.specs.declared.change.Refusal.TheVariants.{UnknownObject, Gone, UnknownClass, AbstractClass, NameTaken, ReservedName, UnknownFeature, WrongKind, WrongValue, WrongTarget, ContainmentCycle, TooManyObjects}
 use Rattle.vt_model_json.specs.Loading as model
+use Rattle.vt_script.specs.Script as script
+use Rattle.vt_script.specs.declared.line.Line.{Line}
 use Rattle.vt_vql.specs.declared.fault.QueryFault.{QueryFault}
 use Rattle.vt_vql.specs.declared.fault.QueryFault.TheVariants as query
 use Rattle.vt_cli.specs.Lines.{input_line}
+use Rattle.vt_cli.specs.Unbuilt.{unbuilt}
 use Rattle.vt_cli.specs.declared.ending.Role.{Role}
 use Rattle.vt_cli.specs.declared.ending.Role.TheVariants as role
 use Rattle.vt_cli.specs.declared.ending.Ending.TheVariants.{BadInput}
@@ -85,3 +88,30 @@ refused_queries (query.NotText place) = Some (refused role.Queries 1 (codes "Not
 refused_queries (query.BadToken line) = Some (refused role.Queries 2 (codes "BadToken") line)
 refused_queries (query.NotBuilt place) = Some (refused role.Queries 90 (codes "NotBuilt") place)
 refused_queries query.NoMemory = None
+
+-- ---- rules
+
+-- no rule is read yet: a file with a byte in it is refused
+abbrev pub refused_rules : List ℕ → Result (Unit {0}) Outcome
+refused_rules [] = Ok tt
+refused_rules bytes = Err (refused role.Rules 90 (codes "NotBuilt") 0)
+
+-- ---- scripts
+
+abbrev pub script_fault : script.Fault → Outcome
+script_fault (script.not_text line) = refused role.Script 1 (codes "NotText") line
+script_fault (script.syntax_at line) = refused role.Script 2 (codes "Syntax") line
+script_fault (script.too_many line) = refused role.Script 3 (codes "TooMany") line
+
+-- a command that isn't built yet, by its number
+abbrev pub unbuilt_command : ℕ → Outcome
+unbuilt_command n = refused role.Script 90 (codes "NotBuilt") n
+
+abbrev pub built_of : List Line → Option ℕ → Result (List Line) Outcome
+built_of lines None = Ok lines
+built_of lines (Some n) = Err (unbuilt_command n)
+
+-- the commands of a script, or the outcome of its first fault
+abbrev pub refused_script : Result (List Line) script.Fault → Result (List Line) Outcome
+refused_script (Err fault) = Err (script_fault fault)
+refused_script (Ok lines) = built_of lines (unbuilt lines)

@@ -12,13 +12,16 @@ use Rattle.vt_vql.specs.Queries.{Accepts, IsFaultOf}
 use Rattle.vt_vql.specs.declared.fault.QueryFault.{QueryFault}
 use Rattle.vt_model_json.specs.Loading.{loaded}
 use Rattle.vt_model_json.specs.Dump.{dump}
+use Rattle.vt_script.specs.Script.{script_of}
+use Rattle.vt_script.specs.declared.line.Line.{Line}
 use Rattle.vt_cli.specs.Command.{Command, command_of}
 use Rattle.vt_cli.specs.Lines.{usage_line}
 use Rattle.vt_cli.specs.Texts.{◌>>=◌, texts_of, text_of}
-use Rattle.vt_cli.specs.Refusals.{refused_meta, refused_model, refused_queries}
+use Rattle.vt_cli.specs.Refusals.{refused_meta, refused_model, refused_queries, refused_rules, refused_script}
 use Rattle.vt_cli.specs.Lists.{match_lists}
+use Rattle.vt_cli.specs.Running.{Ground, IsRun}
 use Rattle.vt_cli.specs.declared.command.Task.{Task}
-use Rattle.vt_cli.specs.declared.command.Task.TheVariants.{Show, Matches}
+use Rattle.vt_cli.specs.declared.command.Task.TheVariants.{Show, Matches, Run}
 use Rattle.vt_cli.specs.declared.ending.Role.{Role}
 use Rattle.vt_cli.specs.declared.ending.Role.TheVariants as role
 use Rattle.vt_cli.specs.declared.ending.Ending.TheVariants.{Done, Usage}
@@ -64,27 +67,44 @@ pub record IsListed (l : Loaded) (program : Program) (outcome : Outcome) : Type 
   pub stand : StandFor l.meta l.model program tables
   pub is : outcome ≡ done (match_lists (enum_names l.meta) (all_names l.model) program.patterns tables)
 
--- those of the program that the bytes of a query file spell
-pub record IsMatched (l : Loaded) (bytes : List ℕ) (outcome : Outcome) : Type 0 where
-  pub program : Program
-  pub accepts : Accepts l.meta bytes program
-  pub listed : IsListed l program outcome
-
--- or the line that tells the query file's first fault
-pub record IsRefused (l : Loaded) (bytes : List ℕ) (outcome : Outcome) : Type 0 where
-  pub fault : QueryFault
-  pub stands : IsFaultOf l.meta bytes fault
-  pub is : refused_queries fault ≡ Some outcome
+-- the load and the replies to a script
+pub record IsTold (l : Loaded) (program : Program) (lines : List Line) (outcome : Outcome) : Type 0 where
+  pub text : List ℕ
+  pub run : IsRun (record { meta = l.meta; program = program }) l.model lines text
+  pub is : outcome ≡ done text
 
 -- what comes first, or what is due to the rest
 abbrev pub IsDueTo : {A : Type 0} → Result A Outcome → (A → Outcome → Type 0) → Outcome → Type 0
 IsDueTo (Err first) rest outcome = outcome ≡ first
 IsDueTo (Ok x) rest outcome = rest x outcome
 
+-- the rules are judged before the script
+abbrev pub IsRunOf : Loaded → List (Role × List ℕ) → Program → Outcome → Type 0
+IsRunOf l texts program outcome =
+    IsDueTo (refused_rules (text_of role.Rules texts))
+    (λ rules o. IsDueTo (refused_script (script_of (text_of role.Script texts))) (λ lines due. IsTold l program lines due) o) outcome
+
+-- what is due to the program that the bytes of a query file spell
+pub record IsOfProgram (l : Loaded) (bytes : List ℕ) (due_to : Program → Outcome → Type 0) (outcome : Outcome) : Type 0 where
+  pub program : Program
+  pub accepts : Accepts l.meta bytes program
+  pub due : due_to program outcome
+
+-- the line that tells the file's first fault
+pub record IsRefused (l : Loaded) (bytes : List ℕ) (outcome : Outcome) : Type 0 where
+  pub fault : QueryFault
+  pub stands : IsFaultOf l.meta bytes fault
+  pub is : refused_queries fault ≡ Some outcome
+
+-- the queries are judged before what is about them
+abbrev pub IsDueToQueries : Loaded → List ℕ → (Program → Outcome → Type 0) → Outcome → Type 0
+IsDueToQueries l bytes due_to outcome = IsOfProgram l bytes due_to outcome ⊎ IsRefused l bytes outcome
+
 -- what a command makes of a model and its other texts: each command has a line
 abbrev pub IsDueToModel : Task → Loaded → List (Role × List ℕ) → Outcome → Type 0
 IsDueToModel Show l texts outcome = outcome ≡ shown l
-IsDueToModel Matches l texts outcome = IsMatched l (text_of role.Queries texts) outcome ⊎ IsRefused l (text_of role.Queries texts) outcome
+IsDueToModel Matches l texts outcome = IsDueToQueries l (text_of role.Queries texts) (IsListed l) outcome
+IsDueToModel Run l texts outcome = IsDueToQueries l (text_of role.Queries texts) (IsRunOf l texts) outcome
 
 -- the model is judged before the texts that are about it
 abbrev pub IsDueToTexts : Task → List (Role × List ℕ) → Outcome → Type 0

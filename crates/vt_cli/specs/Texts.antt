@@ -36,6 +36,8 @@ abbrev pub is_same : Role → Role → Bool
 is_same role.Metamodel role.Metamodel = true
 is_same role.Model role.Model = true
 is_same role.Queries role.Queries = true
+is_same role.Rules role.Rules = true
+is_same role.Script role.Script = true
 is_same role other = false
 
 -- the bytes of the file that is this to its command

@@ -11,6 +11,7 @@ use vt_base::Text;
 pub enum Task {
     Show,
     Matches,
+    Run,
 }
 
 /// A command: what it does, what its files are to it, and their names.
@@ -28,6 +29,8 @@ fn task_of(word: &Text) -> Option<Task>
         Some(Task::Show)
     } else if word.is("matches") {
         Some(Task::Matches)
+    } else if word.is("run") {
+        Some(Task::Run)
     } else {
         None
     }
@@ -39,6 +42,13 @@ fn roles_of(task: Task) -> &'static [Role]
     match task {
         Task::Show => &[Role::Metamodel, Role::Model],
         Task::Matches => &[Role::Metamodel, Role::Model, Role::Queries],
+        Task::Run => &[
+            Role::Metamodel,
+            Role::Model,
+            Role::Queries,
+            Role::Rules,
+            Role::Script,
+        ],
     }
 }
 

@@ -10,6 +10,8 @@ pub enum Role {
     Metamodel,
     Model,
     Queries,
+    Rules,
+    Script,
 }
 
 /// How a run ends.

@@ -87,6 +87,8 @@ fn is_same(role: Role, other: Role) -> bool
         (Role::Metamodel, Role::Metamodel) => true,
         (Role::Model, Role::Model) => true,
         (Role::Queries, Role::Queries) => true,
+        (Role::Rules, Role::Rules) => true,
+        (Role::Script, Role::Script) => true,
         _ => false,
     }
 }

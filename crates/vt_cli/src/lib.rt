@@ -1,8 +1,8 @@
 //! The commands: words and files in, text and an ending out.
 //!
 //! It stands on all crates below. Read `specs/Command.antt`, `specs/Lines.antt`, `specs/Texts.antt`,
-//! `specs/Refusals.antt`, `specs/Lists.antt`, `specs/Result.antt` and `specs/Answer.antt`; then
-//! `viatra`, below.
+//! `specs/Unbuilt.antt`, `specs/Refusals.antt`, `specs/Lists.antt`, `specs/Replies.antt`,
+//! `specs/Running.antt`, `specs/Result.antt` and `specs/Answer.antt`; then `viatra`, below.
 #![tactic(auto)]
 
 ghost use Rattle.std.specs.Prelude.{◌≡◌};
@@ -13,23 +13,32 @@ ghost use Rattle.vt_cli.specs.Answer.{IsRefusal, IsAnswered, TellsUsage, IsUnrea
 
 // What the words come to, and how a run ends.
 mod command;
+mod delivery;
 mod documents;
 mod ending;
 mod fetching;
 mod lines;
 mod matches;
 mod outcome;
+mod prepared;
 mod refusals;
+// A session, and the replies to its script.
+mod beginning;
+mod events;
+mod replies;
+mod running;
 #[cfg(test)]
 mod tests;
+mod unbuilt;
 // What holds of every run.
 mod laws;
 
 // How a run ends.
 pub use ending::{Ending, Role};
 // What holds of every run.
+use delivery::deliver;
 pub use laws::one_outcome_is_due;
-use outcome::{deliver, prepare};
+use outcome::prepare;
 use std::alloc::Global;
 use std::sync::ledger::Ledger;
 use vt_base::{NoMemory, Steps, Text};
@@ -76,11 +85,11 @@ pub fn viatra<S: Shelf, K: Sink, L: Ledger>(
     ensures completes { ¬ Rose (S.faults shelf.old) (S.faults shelf.new)
         → ¬ Rose (K.faults out.old) (K.faults out.new) → IsCompleted result }
 
-    // Only `matches` asks the model for rows, which are counted.
+    // `show` asks the model for no rows: those that are asked for are counted.
     ensures ticks { AsksNothing (command_of words.now) → steps.new ≡ steps.old }
 {
     match prepare(alloc, words, shelf, steps) {
-        Ok(outcome) => deliver(out, &outcome),
+        Ok(prepared) => deliver(alloc, prepared, out, steps),
         Err(NoMemory) => Ending::NoMemory,
     }
 }

@@ -13,6 +13,8 @@ fn role_name(role: Role) -> &'static str
         Role::Metamodel => "metamodel",
         Role::Model => "model",
         Role::Queries => "queries",
+        Role::Rules => "rules",
+        Role::Script => "script",
     }
 }
 

@@ -7,7 +7,7 @@ ghost use Rattle.vt_model.specs.Sound.{IsSound};
 ghost use Rattle.vt_model.specs.Valid.{IsValid};
 ghost use Rattle.vt_query.specs.Narrow.{IsNarrow};
 ghost use Rattle.vt_cli.specs.Texts.{file_limit};
-ghost use Rattle.vt_cli.specs.Result.{IsListed, IsMatched, IsRefused};
+ghost use Rattle.vt_cli.specs.Result.{IsListed, IsDueToQueries};
 ghost use Rattle.vt_cli.specs.Inside.Prepared.{IsOfFiles};
 ghost use Rattle.vt_cli.specs.Inside.Printable.{AllNamed, AllTablesNamed};
 ghost use Rattle.vt_cli.specs.Inside.Seen.{loaded_of};
@@ -36,7 +36,8 @@ fn write_match<N: Names>(
     out.add(b'\n')
 }
 
-fn write_rows<N: Names>(
+/// The lines of matches.
+pub(crate) fn write_rows<N: Names>(
     alloc: Global,
     rows: &Rows,
     names: &N,
@@ -156,7 +157,7 @@ pub(crate) fn matches<L: Ledger>(
 ) -> Result<Outcome, NoMemory>
     requires { length bytes.now ≤ file_limit }
     ensures due { IfOk result (λ outcome.
-        IsMatched (loaded_of store.now) bytes.now outcome ⊎ IsRefused (loaded_of store.now) bytes.now outcome) }
+        IsDueToQueries (loaded_of store.now) bytes.now (IsListed (loaded_of store.now)) outcome) }
     ensures suits { IfOk result (λ outcome. IsOfFiles outcome.ending) }
 {
     match read_queries(alloc, store.meta(), bytes) {

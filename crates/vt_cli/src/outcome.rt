@@ -1,20 +1,24 @@
-// What the words come to over a shelf, and how it is written.
+// What the words come to over a shelf.
 ghost use Rattle.std.specs.Prelude.{◌≡◌, None, Some, IfOk};
 ghost use Rattle.vt_cli.specs.Command.{command_of, AsksNothing, IsWithoutRows};
-ghost use Rattle.vt_cli.specs.Result.{usage, shown, IsDueToModel, IsDueToTexts};
-ghost use Rattle.vt_cli.specs.Inside.Prepared.{AreSmall, IsOfFiles, Prepares, Delivers};
+ghost use Rattle.vt_cli.specs.Result.{usage, shown, IsDueToTexts};
+ghost use Rattle.vt_cli.specs.declared.command.Task.TheVariants as tasks;
+ghost use Rattle.vt_cli.specs.declared.ending.Outcome.{Outcome};
+ghost use Rattle.vt_cli.specs.Inside.Prepared.{AreSmall, IsOfFiles, Prepares};
+ghost use Rattle.vt_cli.specs.Inside.Begun.{IsReady, ComesTo, IsWhole};
 ghost use Rattle.vt_cli.specs.Inside.Seen.{seen, loaded_of};
 
 use crate::command::{Command, Task, parse};
 use crate::documents::load;
 use crate::ending::{Ending, Outcome, Role};
 use crate::fetching::{fetch_files, text_of};
-use crate::{lines, matches};
+use crate::prepared::Prepared;
+use crate::{beginning, lines, matches};
 use std::alloc::Global;
 use std::sync::ledger::Ledger;
 use vt_base::{List, NoMemory, Steps, Text};
 use vt_model_json::write_model;
-use vt_outside::{PutFail, Shelf, Sink};
+use vt_outside::Shelf;
 use vt_store::Store;
 
 fn usage(alloc: Global) -> Result<Outcome, NoMemory>
@@ -38,57 +42,73 @@ fn dump(alloc: Global, store: &Store) -> Result<Outcome, NoMemory>
     })
 }
 
-// What a command makes of a model and its other texts: each command has a line.
-fn answer_model<L: Ledger>(
+// What `show` makes of its texts.
+fn show(alloc: Global, texts: &[(Role, List<u8>)]) -> Result<Outcome, NoMemory>
+    requires { AreSmall texts.now }
+    ensures due { IfOk result (λ outcome. IsDueToTexts tasks.Show texts.now outcome) }
+    ensures suits { IfOk result (λ outcome. IsOfFiles outcome.ending) }
+{
+    match load(alloc, texts)? {
+        Ok(store) => dump(alloc, &store),
+        Err(outcome) => Ok(outcome),
+    }
+}
+
+// What `matches` makes of its texts.
+fn list<L: Ledger>(
     alloc: Global,
-    task: Task,
-    store: &Store,
     texts: &[(Role, List<u8>)],
     steps: &mut Steps<L>,
 ) -> Result<Outcome, NoMemory>
     requires { AreSmall texts.now }
-    ensures due { IfOk result (λ outcome. IsDueToModel task (loaded_of store.now) texts.now outcome) }
+    ensures due { IfOk result (λ outcome. IsDueToTexts tasks.Matches texts.now outcome) }
     ensures suits { IfOk result (λ outcome. IsOfFiles outcome.ending) }
-    ensures ticks { IsWithoutRows task → steps.new ≡ steps.old }
 {
-    match task {
-        Task::Show => dump(alloc, store),
-        Task::Matches => matches::matches(alloc, store, text_of(texts, Role::Queries), steps),
+    match load(alloc, texts)? {
+        Ok(store) => matches::matches(alloc, &store, text_of(texts, Role::Queries), steps),
+        Err(outcome) => Ok(outcome),
     }
 }
 
-// What a command makes of its texts.
+// What a command makes of its texts: each command has a line.
 fn answer<L: Ledger>(
     alloc: Global,
     task: Task,
     texts: &[(Role, List<u8>)],
     steps: &mut Steps<L>,
-) -> Result<Outcome, NoMemory>
+) -> Result<Prepared, NoMemory>
     requires { AreSmall texts.now }
-    ensures due { IfOk result (λ outcome. IsDueToTexts task texts.now outcome) }
-    ensures suits { IfOk result (λ outcome. IsOfFiles outcome.ending) }
+    ensures due { IfOk result (λ prepared. (outcome : Outcome) → ComesTo prepared outcome
+        → IsDueToTexts task texts.now outcome) }
+    ensures suits { IfOk result (λ prepared. (outcome : Outcome) → ComesTo prepared outcome → IsOfFiles outcome.ending) }
+    ensures ready { IfOk result IsReady }
+    ensures whole { IsWithoutRows task → IfOk result IsWhole }
     ensures ticks { IsWithoutRows task → steps.new ≡ steps.old }
 {
-    match load(alloc, texts)? {
-        Ok(store) => answer_model(alloc, task, &store, texts, steps),
-        Err(outcome) => Ok(outcome),
+    match task {
+        Task::Show => Ok(Prepared::Told(show(alloc, texts)?)),
+        Task::Matches => Ok(Prepared::Told(list(alloc, texts, steps)?)),
+        Task::Run => beginning::run(alloc, texts, steps),
     }
 }
 
 // What a command comes to over a shelf. All files are fetched before any is judged.
-fn run<S: Shelf, L: Ledger>(
+fn fetch_and_answer<S: Shelf, L: Ledger>(
     alloc: Global,
     command: &Command<'_>,
     shelf: &mut S,
     steps: &mut Steps<L>,
-) -> Result<Outcome, NoMemory>
-    ensures prepared { IfOk result (λ outcome. Prepares (Some (seen command.now)) (S.files shelf.old)
+) -> Result<Prepared, NoMemory>
+    ensures prepared { IfOk result (λ prepared. (outcome : Outcome) → ComesTo prepared outcome
+        → Prepares (Some (seen command.now)) (S.files shelf.old)
         (S.faults shelf.old) (S.faults shelf.new) (S.failed shelf.new) outcome) }
+    ensures ready { IfOk result IsReady }
+    ensures whole { AsksNothing (Some (seen command.now)) → IfOk result IsWhole }
     ensures ticks { AsksNothing (Some (seen command.now)) → steps.new ≡ steps.old }
 {
     match fetch_files(alloc, shelf, command.roles, command.names)? {
         Ok(texts) => answer(alloc, command.task, texts.as_slice(), steps),
-        Err(outcome) => Ok(outcome),
+        Err(outcome) => Ok(Prepared::Told(outcome)),
     }
 }
 
@@ -98,25 +118,16 @@ pub(crate) fn prepare<S: Shelf, L: Ledger>(
     words: &[Text],
     shelf: &mut S,
     steps: &mut Steps<L>,
-) -> Result<Outcome, NoMemory>
-    ensures prepared { IfOk result (λ outcome. Prepares (command_of words.now) (S.files shelf.old)
+) -> Result<Prepared, NoMemory>
+    ensures prepared { IfOk result (λ prepared. (outcome : Outcome) → ComesTo prepared outcome
+        → Prepares (command_of words.now) (S.files shelf.old)
         (S.faults shelf.old) (S.faults shelf.new) (S.failed shelf.new) outcome) }
+    ensures ready { IfOk result IsReady }
+    ensures whole { AsksNothing (command_of words.now) → IfOk result IsWhole }
     ensures ticks { AsksNothing (command_of words.now) → steps.new ≡ steps.old }
 {
     match parse(words) {
-        Some(command) => run(alloc, &command, shelf, steps),
-        None => usage(alloc),
-    }
-}
-
-/// Writes the text, whose failure is told in place of the ending.
-pub(crate) fn deliver<K: Sink>(out: &mut K, outcome: &Outcome) -> Ending
-    ensures { Delivers outcome.now result (K.faults out.old) (K.faults out.new)
-        (K.written out.old) (K.written out.new) }
-{
-    match out.put(outcome.text.as_slice()) {
-        Ok(()) => outcome.ending,
-        Err(PutFail::Failed) => Ending::WriteFault,
-        Err(PutFail::NoMemory) => Ending::NoMemory,
+        Some(command) => fetch_and_answer(alloc, &command, shelf, steps),
+        None => Ok(Prepared::Told(usage(alloc)?)),
     }
 }

@@ -1,11 +1,13 @@
 // The outcomes of files that are refused.
-ghost use Rattle.std.specs.Prelude.{◌≡◌, IfOk, Ok, Err, Result, Some};
+ghost use Rattle.std.specs.Prelude.{◌≡◌, IfOk, IfErr, Ok, Err, Result, Some, List};
 ghost use Rattle.vt_model.specs.Metamodel.{Metamodel};
 ghost use Rattle.vt_model.specs.Model.{Model};
 ghost use Rattle.vt_meta.specs.Reading.{IsFaultOf as IsMetaFaultOf};
 ghost use Rattle.vt_meta.specs.Faults.{Fault as MetaFaultDue};
 ghost use Rattle.vt_model_json.specs.Loading.{Fault as ModelFaultDue, IsFaultOf as IsModelFaultOf};
-ghost use Rattle.vt_cli.specs.Refusals.{refused, refused_meta, refused_model, refused_queries, refusal_number, refusal_name};
+ghost use Rattle.vt_script.specs.Script.{Fault as ScriptFaultDue, IsFaultOf as IsScriptFaultOf};
+ghost use Rattle.vt_script.specs.declared.line.Line.{Line};
+ghost use Rattle.vt_cli.specs.Refusals.{refused, refused_meta, refused_model, refused_queries, refused_rules, refused_script, unbuilt_command, refusal_number, refusal_name};
 ghost use Rattle.vt_cli.specs.Inside.Prepared.{IsOfFiles};
 
 use crate::ending::{Ending, Outcome, Role};
@@ -14,6 +16,7 @@ use std::alloc::Global;
 use vt_base::NoMemory;
 use vt_meta::{MetaFault, Refusal};
 use vt_model_json::ModelFault;
+use vt_script::ScriptFault;
 use vt_vql::QueryFault;
 
 fn refuse(alloc: Global, file: Role, code: u16, name: &str, place: u64) -> Result<Outcome, NoMemory>
@@ -65,7 +68,8 @@ fn number(why: Refusal) -> u16
     }
 }
 
-fn name(why: Refusal) -> &'static str
+/// The name of a refusal.
+pub(crate) fn name(why: Refusal) -> &'static str
     ensures { result.now ≡ refusal_name why }
 {
     match why {
@@ -113,4 +117,41 @@ pub(crate) fn queries(alloc: Global, fault: QueryFault) -> Result<Outcome, NoMem
         QueryFault::NotBuilt { place } => refuse(alloc, Role::Queries, 90, "NotBuilt", place),
         QueryFault::NoMemory => Err(NoMemory),
     }
+}
+
+/// No rule is read yet: what a rules file comes to that isn't empty.
+pub(crate) fn rules(alloc: Global, bytes: &[u8]) -> Result<Result<(), Outcome>, NoMemory>
+    ensures due { IfOk result (λ judged. judged ≡ refused_rules bytes.now) }
+    ensures suits { IfOk result (λ judged. IfErr judged (λ outcome. IsOfFiles outcome.ending)) }
+{
+    if bytes.is_empty() {
+        return Ok(Ok(()));
+    }
+    Ok(Err(refuse(alloc, Role::Rules, 90, "NotBuilt", 0)?))
+}
+
+/// What a script's fault comes to.
+pub(crate) fn script(alloc: Global, fault: ScriptFault) -> Result<Outcome, NoMemory>
+    ensures due { IfOk result (λ outcome. (due : Result (List Line) ScriptFaultDue)
+        → IsScriptFaultOf fault due → refused_script due ≡ Err outcome) }
+    ensures suits { IfOk result (λ outcome. IsOfFiles outcome.ending) }
+{
+    match fault {
+        ScriptFault::NotText { line } => {
+            refuse(alloc, Role::Script, 1, "NotText", u64::from(line))
+        }
+        ScriptFault::Syntax { line } => refuse(alloc, Role::Script, 2, "Syntax", u64::from(line)),
+        ScriptFault::TooMany { line } => {
+            refuse(alloc, Role::Script, 3, "TooMany", u64::from(line))
+        }
+        ScriptFault::NoMemory => Err(NoMemory),
+    }
+}
+
+/// What a command comes to that isn't built yet, by its number.
+pub(crate) fn unbuilt(alloc: Global, number: u64) -> Result<Outcome, NoMemory>
+    ensures due { IfOk result (λ outcome. outcome ≡ unbuilt_command number) }
+    ensures suits { IfOk result (λ outcome. IsOfFiles outcome.ending) }
+{
+    refuse(alloc, Role::Script, 90, "NotBuilt", number)
 }

@@ -1,5 +1,5 @@
-// The commands over files and output in memory: their endings, dumps, match lists and the lines that
-// tell a fault, each worked out by hand.
+// The commands over files and output in memory: their endings, dumps, match lists, replies and the
+// lines that tell a fault, each worked out by hand.
 ghost use Rattle.std.specs.Prelude.{◌≡◌};
 
 use crate::{Ending, viatra};
@@ -13,6 +13,8 @@ use vt_outside::{MemShelf, MemSink};
 mod documents;
 mod faults;
 mod matches;
+mod replies;
+mod runs;
 mod show;
 
 // One class: its objects have a number `w`, and lead to others by `to`.

@@ -14,6 +14,8 @@ const FILES: &[(&str, &str)] = &[
     ("open", "{"),
     ("list", "[]"),
     ("token", "1a"),
+    ("empty", ""),
+    ("script", "matches edge"),
     // The class of the nodes, but abstract.
     (
         "abstract",
@@ -32,9 +34,10 @@ const FILES: &[(&str, &str)] = &[
 ];
 
 // Words, the fetches and the puts that fail, counted from 1, the exit status, and the text. The dump and
-// the match lists of the two nodes stand as `dump` and `lists`.
+// the match lists of the two nodes, and a run over them, stand as `dump`, `lists` and `run`.
 const RUNS: &str = r#"show nodes two;;;0;dump
 matches nodes two edges;;;0;lists
+run nodes two edges empty script;;;0;run
 ;1;;2;usage
 show;1;;2;usage
 show nodes;1;;2;usage
@@ -49,6 +52,9 @@ matches nodes two;1;;2;usage
 matches nodes two edges more;1;;2;usage
 Matches nodes two edges;1;;2;usage
 matche nodes two edges;1;;2;usage
+run nodes two edges empty;1;;2;usage
+run nodes two edges empty script more;1;;2;usage
+Run nodes two edges empty script;1;;2;usage
 show open two;;;3;metamodel NotJson 0
 show list two;;;3;metamodel BadShape 0
 show two nodes;;;3;metamodel BadShape 0
@@ -72,6 +78,18 @@ matches open two none;;;4;queries missing
 matches nodes open none;;;4;queries missing
 matches open none none;;;4;model missing
 matches none none token;;;4;metamodel missing
+run nodes two edges empty none;;;4;script missing
+run nodes two edges none none;;;4;rules missing
+run open two token none none;;;4;rules missing
+run open two token token token;;;3;metamodel NotJson 0
+run nodes open token token token;;;3;model NotJson 0
+run nodes two token token token;;;3;queries BadToken 1
+run nodes two edges token token;;;3;rules NotBuilt 0
+run nodes two edges empty token;;;3;script Syntax 1
+run nodes two edges empty script;4;;4;rules unreadable
+run nodes two edges empty script;5;;4;script unreadable
+run nodes two edges none script;5;;4;rules missing
+run nodes two edges empty token;;1;6;
 show nodes two;1;;4;metamodel unreadable
 show nodes two;2;;4;model unreadable
 show nodes two;1 2;;4;metamodel unreadable
@@ -93,6 +111,8 @@ show nodes open;;1;6;
 show;;1;6;"#;
 
 const LISTS: &str = "pattern edge 2\n  (p, p)\n  (p, q)\n";
+
+const REPLIES: &str = "load: step 0\nmatches edge: 2\n  (p, p)\n  (p, q)\n";
 
 fn numbers_of(alloc: Global, text: &str) -> Result<List<u64>, Fail> {
     let mut numbers = List::new(alloc);
@@ -141,6 +161,7 @@ fn wanted_of(alloc: Global, run: &str) -> Result<(u8, String), Fail> {
         "" => String::new(alloc),
         "dump" => String::from_str(alloc, TWO_NODES_DUMP)?,
         "lists" => String::from_str(alloc, LISTS)?,
+        "run" => String::from_str(alloc, REPLIES)?,
         told => format!(in alloc; "fault: {told}\n")?,
     };
     Ok((status, text))

@@ -1,0 +1,65 @@
+-- Texts that are put one after the other, and the ending of what was put.
+use Rattle.std.proofs.Common.{◌≡◌, ℕ, zero, suc, ◌+◌, ◌≤◌, min, List, [], ◌∷◌, ◌++◌, length, take, Option, Some, None, Result, Ok, Err, refl, sym, ap, subst, ◌∙◌, arith, inl, inr}
+use Rattle.std.specs.Prelude.{OnOk, OnErr}
+use Rattle.std.specs.Io.KnownBytes.{Appends}
+use Rattle.std.proofs.KnownBytes.{Appends-nil, Appends-trans}
+use Rattle.vt_outside.specs.Faults.{Rose, raised, CountsPut}
+use Rattle.vt_outside.specs.Sink.{AppendsPrefix}
+use Rattle.vt_outside.specs.declared.sink.PutFail.{PutFail}
+use Rattle.vt_outside.specs.declared.sink.PutFail.TheVariants as put
+use Rattle.vt_cli.specs.Inside.Prepared.{Delivers}
+use Rattle.vt_cli.specs.Inside.Begun.{IsPut, ended}
+use Rattle.vt_cli.specs.declared.ending.Outcome.{Outcome}
+
+-- ---- fronts of two texts
+
+take_over : (bs cs : List ℕ) (n : ℕ) → take (length bs + n) (bs ++ cs) ≡ bs ++ take n cs
+take_over [] cs n = refl
+take_over (b ∷ bs) cs n = ap (λ l. b ∷ l) (take_over bs cs n)
+
+take_within : (bs cs : List ℕ) (n : ℕ) → take (min n (length bs)) (bs ++ cs) ≡ take n bs
+take_within [] cs n = rw (min_zero n) refl
+  where
+    min_zero : (n : ℕ) → min n 0 ≡ 0
+    min_zero n = omega arith
+take_within (b ∷ bs) cs zero = refl
+take_within (b ∷ bs) cs (suc n) = rw (min_suc n (length bs)) (ap (λ l. b ∷ l) (take_within bs cs n))
+  where
+    min_suc : (m n : ℕ) → min (suc m) (suc n) ≡ suc (min m n)
+    min_suc m n = omega arith
+
+-- one text whole, and then a front of another
+pub front_after : (a b c : Option (List ℕ)) (bs cs : List ℕ) → Appends a b bs → AppendsPrefix b c cs → AppendsPrefix a c (bs ++ cs)
+front_after a b c bs cs whole part = record {
+  count = length bs + part.count;
+  grown = subst (Appends a c) (sym (take_over bs cs part.count)) (Appends-trans a b c bs (take part.count cs) whole part.grown);
+}
+
+-- a front of the first of two
+pub front_within : (a b : Option (List ℕ)) (bs cs : List ℕ) → AppendsPrefix a b bs → AppendsPrefix a b (bs ++ cs)
+front_within a b bs cs part = record {
+  count = min part.count (length bs);
+  grown = subst (Appends a b) (sym (take_within bs cs part.count)) part.grown;
+}
+
+-- nothing of it
+pub front_none : (a : Option (List ℕ)) (cs : List ℕ) → AppendsPrefix a a cs
+front_none a cs = record { count = 0; grown = Appends-nil a }
+
+-- a text whole, and nothing of what comes after
+pub front_only : (a b : Option (List ℕ)) (bs cs : List ℕ) → Appends a b bs → AppendsPrefix a b (bs ++ cs)
+front_only a b bs cs whole = front_after a b b bs cs whole (front_none b cs)
+
+-- ---- the ending
+
+-- what a sink says of a put
+pub IsPut-from : (result : Result (Unit {0}) PutFail) (old new : Option (List ℕ)) (piece : List ℕ)
+    → OnOk result (Appends old new piece) → OnErr result (AppendsPrefix old new piece) → IsPut result old new piece
+IsPut-from (Ok done) old new piece whole part = whole
+IsPut-from (Err why) old new piece whole part = part
+
+pub Delivers-put : (outcome : Outcome) (result : Result (Unit {0}) PutFail) (before now : ℕ) (old new : Option (List ℕ))
+    → IsPut result old new outcome.text → CountsPut before now result → Delivers outcome (ended outcome.ending result) before now old new
+Delivers-put outcome (Ok done) before now old new is counts = inl (refl, is)
+Delivers-put outcome (Err put.Failed) before now old new is counts = inr (subst (λ n. raised before ≤ n) (sym (counts.one refl)) (omega arith), is)
+Delivers-put outcome (Err put.NoMemory) before now old new is counts = inr (tt, is)

@@ -1,0 +1,2 @@
+mod TouchingLemmas
+mod EventLemmas

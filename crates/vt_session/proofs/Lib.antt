@@ -1,0 +1,6 @@
+mod BufferLemmas
+mod DenialLemmas
+mod StateLemmas
+mod LiveLemmas
+mod NextLemmas
+mod SampleLemmas

@@ -1,0 +1,3 @@
+-- No public clause cites a module below.
+pub mod Order
+pub mod Next

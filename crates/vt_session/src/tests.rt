@@ -1,0 +1,205 @@
+//! Sessions over a small library: what clients may do, and what each step reports.
+mod library;
+mod told;
+
+ghost use Rattle.std.specs.Prelude.{◌≡◌, ◌<◌};
+
+use crate::{Session, SessionFault};
+use library::{change, empty_library};
+use std::alloc::Global;
+use std::fmt::Write;
+use std::marker::Brand;
+use std::sync::ledger::{Blank, Ledger};
+use std::test::Fail;
+use told::add_report;
+use vt_base::{Steps, Text};
+use vt_model::Change;
+
+fn add_answer(text: &mut String, answer: Result<(), SessionFault>) -> Result<(), Fail> {
+    match answer {
+        Ok(()) => text.push_str("ok\n")?,
+        Err(why) => write!(text, "{why}\n")?,
+    }
+    Ok(())
+}
+
+fn add_commit<L: Ledger>(
+    text: &mut String,
+    alloc: Global,
+    session: &mut Session,
+    client: &Text,
+    steps: &mut Steps<L>,
+) -> Result<(), Fail> {
+    if session.step() >= 1000 {
+        return Err(Fail::new("too many steps"));
+    }
+    match session.commit(alloc, client, steps) {
+        Ok(report) => add_report(text, session, &report),
+        Err(why) => add_answer(text, Err(why)),
+    }
+}
+
+// What a line asks for: `begin ann`, `commit ann`, `abort ann`, `matches book`, or a change as
+// `ann create x Book`.
+fn add_line<L: Ledger>(
+    text: &mut String,
+    alloc: Global,
+    session: &mut Session,
+    line: &str,
+    steps: &mut Steps<L>,
+) -> Result<(), Fail> {
+    let (first, rest) = line.split_once(' ').ok_or("one word")?;
+    let name = Text::new(alloc, rest)?;
+    match first {
+        "begin" => add_answer(text, session.begin(alloc, &name)),
+        "abort" => add_answer(text, session.abort(&name)),
+        "commit" => add_commit(text, alloc, session, &name, steps),
+        "matches" => {
+            match session.matches(&name) {
+                Some(rows) => write!(text, "{} matches\n", rows.len())?,
+                None => text.push_str("no such pattern\n")?,
+            }
+            Ok(())
+        }
+        _ => {
+            let client = Text::new(alloc, first)?;
+            add_answer(text, session.change(&client, change(alloc, rest)?))
+        }
+    }
+}
+
+// What a session over the empty library answers to the lines of a script.
+fn answers<L: Ledger>(alloc: Global, script: &str, blank: Blank) -> Result<String, Fail>
+    requires name { blank.name ≡ L.name }
+    requires parts { blank.parts ≡ L.parts }
+    requires some { 0 < blank.parts }
+{
+    let mut steps = Steps::<L>::new(blank);
+    let mut session = empty_library(alloc, &mut steps)?;
+    let mut text = String::new(alloc);
+    for line in script.lines() {
+        add_line(&mut text, alloc, &mut session, line, &mut steps)?;
+    }
+    Ok(text)
+}
+
+#[test]
+fn a_step_reports_what_came_what_went_and_what_has_other_values(
+    rt: HostRuntime,
+) -> Result<(), Fail> {
+    let alloc = rt.alloc();
+    let script = "begin ann\nann create a Shelf\nann create x Book\ncommit ann\n\
+        begin ann\nann set x pages 3\ncommit ann\n\
+        begin ann\nann set x pages 4\nann set x pages 3\ncommit ann\n\
+        begin ann\nann delete x\nann create y Book\ncommit ann\n\
+        begin ann\ncommit ann";
+    let expected = "ok\nok\nok\nstep 1 book[+x] shelf[+a] touched[]\n\
+        ok\nok\nstep 2 book[~x] shelf[] touched[x]\n\
+        ok\nok\nok\nstep 3 book[] shelf[] touched[]\n\
+        ok\nok\nok\nstep 4 book[+y -x] shelf[] touched[]\n\
+        ok\nstep 5 book[] shelf[] touched[]\n";
+    assert!(rt; answers::<Brand>(alloc, script, Blank::new(1))?.as_str() == expected);
+    Ok(())
+}
+
+#[test]
+fn a_refused_transaction_ends_and_changes_nothing(rt: HostRuntime) -> Result<(), Fail> {
+    let alloc = rt.alloc();
+    let script = "begin ann\nann create x Book\nann delete z\ncommit ann\nmatches book\n\
+        commit ann\nann create x Book\nabort ann\n\
+        begin ann\nann create x Book\ncommit ann\nmatches book";
+    let expected =
+        "ok\nok\nok\nchange 1 is refused: an object that is named never existed\n0 matches\n\
+        the client has no transaction open\nthe client has no transaction open\nthe client has no transaction open\n\
+        ok\nok\nstep 1 book[+x] shelf[] touched[]\n1 matches\n";
+    assert!(rt; answers::<Brand>(alloc, script, Blank::new(1))?.as_str() == expected);
+    Ok(())
+}
+
+#[test]
+fn clients_take_turns_and_each_commits_its_own_changes(rt: HostRuntime) -> Result<(), Fail> {
+    let alloc = rt.alloc();
+    let script = "begin ann\nbegin bob\nbegin ann\nann create p Book\nbob create q Book\n\
+        commit bob\nbob create r Book\nann create s Shelf\ncommit ann\nbegin bob\nabort bob\nabort bob";
+    let expected = "ok\nok\nthe client has a transaction open\nok\nok\n\
+        step 1 book[+q] shelf[] touched[]\nthe client has no transaction open\nok\n\
+        step 2 book[+p] shelf[+s] touched[]\nok\nok\nthe client has no transaction open\n";
+    assert!(rt; answers::<Brand>(alloc, script, Blank::new(1))?.as_str() == expected);
+    Ok(())
+}
+
+#[test]
+fn a_private_pattern_has_no_list(rt: HostRuntime) -> Result<(), Fail> {
+    let alloc = rt.alloc();
+    let script = "begin ann\nann create a Shelf\nann create x Book\ncommit ann\n\
+        matches book\nmatches shelf\nmatches desk";
+    let expected = "ok\nok\nok\nstep 1 book[+x] shelf[+a] touched[]\n\
+        1 matches\nno such pattern\nno such pattern\n";
+    assert!(rt; answers::<Brand>(alloc, script, Blank::new(1))?.as_str() == expected);
+    Ok(())
+}
+
+// How the first so many clients begin, and then one of them once more and one more.
+fn begun<L: Ledger>(alloc: Global, count: u32, blank: Blank) -> Result<String, Fail>
+    requires name { blank.name ≡ L.name }
+    requires parts { blank.parts ≡ L.parts }
+    requires some { 0 < blank.parts }
+{
+    let mut steps = Steps::<L>::new(blank);
+    let mut session = empty_library(alloc, &mut steps)?;
+    for client in 0..count {
+        session.begin(
+            alloc,
+            &Text::new(alloc, format!(in alloc; "{client}")?.as_str())?,
+        )?;
+    }
+    let mut text = String::new(alloc);
+    add_answer(&mut text, session.begin(alloc, &Text::new(alloc, "0")?))?;
+    add_answer(
+        &mut text,
+        session.begin(alloc, &Text::new(alloc, "one more")?),
+    )?;
+    Ok(text)
+}
+
+#[test]
+fn at_most_64_clients_have_a_transaction_open(rt: HostRuntime) -> Result<(), Fail> {
+    let alloc = rt.alloc();
+    let twice = "the client has a transaction open\n";
+    let few = begun::<Brand>(alloc, 63, Blank::new(1))?;
+    assert!(rt; few.as_str() == format!(in alloc; "{twice}ok\n")?.as_str());
+    let many = begun::<Brand>(alloc, 64, Blank::new(1))?;
+    let full = "64 clients have a transaction open, as many as may\n";
+    assert!(rt; many.as_str() == format!(in alloc; "{twice}{full}")?.as_str());
+    Ok(())
+}
+
+// How a client's change is answered that comes after so many.
+fn added<L: Ledger>(alloc: Global, count: u32, blank: Blank) -> Result<String, Fail>
+    requires name { blank.name ≡ L.name }
+    requires parts { blank.parts ≡ L.parts }
+    requires some { 0 < blank.parts }
+{
+    let mut steps = Steps::<L>::new(blank);
+    let mut session = empty_library(alloc, &mut steps)?;
+    let client = Text::new(alloc, "ann")?;
+    session.begin(alloc, &client)?;
+    let name = Text::new(alloc, "x")?;
+    for _ in 0..count {
+        session.change(&client, Change::Delete { name: name.share() })?;
+    }
+    let mut text = String::new(alloc);
+    add_answer(&mut text, session.change(&client, Change::Delete { name }))?;
+    add_answer(&mut text, session.abort(&client))?;
+    Ok(text)
+}
+
+#[test]
+fn at_most_65536_changes_are_collected(rt: HostRuntime) -> Result<(), Fail> {
+    let alloc = rt.alloc();
+    let few = added::<Brand>(alloc, 65535, Blank::new(1))?;
+    assert!(rt; few.as_str() == "ok\nok\n");
+    let many = added::<Brand>(alloc, 65536, Blank::new(1))?;
+    assert!(rt; many.as_str() == "the transaction has 65536 changes, as many as it may\nok\n");
+    Ok(())
+}
