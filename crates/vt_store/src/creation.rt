@@ -62,8 +62,11 @@ fn begins_with_underscore(name: &str) -> bool
 fn is_reserved(alloc: Global, name: &Text, number: u32) -> Result<bool, NoMemory>
     ensures { IfOk result (λ reserved. reserved ≡ is_reserved name.now number) }
 {
+    if !begins_with_underscore(name.as_str()) {
+        return Ok(false);
+    }
     let own = format!(in alloc; "_{number}")?;
-    Ok(begins_with_underscore(name.as_str()) && !name.is(own.as_str()))
+    Ok(!name.is(own.as_str()))
 }
 
 // The object that is asked for.
