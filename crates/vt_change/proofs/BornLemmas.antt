@@ -1,5 +1,5 @@
 -- An object that lives after a change lived before it, or has a number that was free.
-use Rattle.std.proofs.Common.{◌≡◌, List, [], ◌∷◌, ◌++◌, refl, sym, ap, subst, ◌⊎◌, inl, inr, true, false, cond, arith}
+use Rattle.std.proofs.Common.{◌≡◌, List, [], ◌∷◌, subst, ◌⊎◌, inl, inr, true, false, cond}
 use Rattle.std.specs.Prelude.{◌≤◌, Contains, Option, Some, None, option_map, option_and_then, unwrap_or, not, Ok}
 use Rattle.std.proofs.lemmas.List.Elements.{Contains-append_cases}
 use Rattle.vt_facts.specs.Parts.{◌>>=◌}
@@ -7,7 +7,6 @@ use Rattle.vt_facts.proofs.MemberLemmas.{Contains-nil, Contains-cons_cases, Cont
 use Rattle.vt_base.specs.declared.numbers.ObjId.{ObjId}
 use Rattle.vt_base.specs.declared.numbers.AttrId.{AttrId}
 use Rattle.vt_base.specs.declared.numbers.ClassId.{ClassId}
-use Rattle.vt_base.specs.declared.value.Kind.{Kind}
 use Rattle.vt_base.specs.declared.value.Value.{Value}
 use Rattle.vt_model.specs.Metamodel.{Metamodel, class_named}
 use Rattle.vt_model.specs.Model.{Model, object_named, feature_at}

@@ -1,12 +1,9 @@
 -- The rows of what a list has without another are the rows that it has without the other's.
-use Rattle.std.proofs.Common.{◌≡◌, Bool, true, false, not, List, [], ◌∷◌, map, refl, sym, ap, ◌∙◌, cond, inl, inr}
-use Rattle.std.proofs.lemmas.Bool.{true≢false}
+use Rattle.std.proofs.Common.{◌≡◌, Bool, true, false, not, List, [], ◌∷◌, map, refl, sym, ap, ◌∙◌, cond}
 use Rattle.std.specs.Prelude.{Contains, Decides, filter}
 use Rattle.std.specs.List.{list_any}
 use Rattle.std.proofs.lemmas.Map.Made.{is_member-Decides}
-use Rattle.std.proofs.lemmas.Map.Views.{Contains-from_any}
 use Rattle.vt_facts.proofs.MemberLemmas.{Contains-head, Contains-behind, Contains-map, Contains-from_map, Contains-filter, Contains-from_filter}
-use Rattle.vt_base.specs.Order.{tuple_cmp}
 use Rattle.vt_base.specs.Rows.{has_row}
 use Rattle.vt_delta.specs.Changes.{without}
 use Rattle.vt_base.specs.declared.value.Value.{Value}

@@ -3,7 +3,7 @@ use Rattle.std.proofs.Common.{◌≡◌, ◌<◌, ◌≢◌, ℕ, ◌+◌, Bool,
 use Rattle.std.proofs.lemmas.Bool.{eqb-true}
 use Rattle.std.proofs.lemmas.Bool.Decides.{nat_tests}
 use Rattle.std.proofs.lemmas.List.{length-map, length-set, get_or-set_same, get_or-set_other}
-use Rattle.std.specs.Prelude.{◌==◌, nat_lt, filter, fold, slice_set, slice_index_or}
+use Rattle.std.specs.Prelude.{◌==◌, nat_lt, filter, fold, slice_index_or}
 use Rattle.vt_delta.specs.Changes.{Change, no_change, change_of, changes_of, turned_at}
 use Rattle.vt_delta.specs.declared.delta.Delta.{Delta}
 use Rattle.vt_base.specs.declared.value.Value.{Value}

@@ -1,6 +1,6 @@
 -- What was told stays the net change, edit by edit.
-use Rattle.std.proofs.Common.{◌≡◌, ◌<◌, ℕ, zero, suc, Bool, true, List, [], ◌∷◌, map, length, replicate, refl, sym, ap, ap₂, subst, ◌∙◌, arith}
-use Rattle.std.specs.Prelude.{pos, not, filter, All, Contains, Option, Some, slice_get, slice_index_or}
+use Rattle.std.proofs.Common.{◌≡◌, ◌<◌, ℕ, zero, suc, Bool, true, List, [], ◌∷◌, length, replicate, refl, sym, ap, ap₂, subst, ◌∙◌, arith}
+use Rattle.std.specs.Prelude.{pos, not, All, Some, slice_get, slice_index_or}
 use Rattle.std.specs.Ordering.{nat_cmp, int_cmp, ordering_then}
 use Rattle.std.specs.List.{list_any}
 use Rattle.std.specs.List.Sorted.{IsStrictlySortedBy}
@@ -16,7 +16,6 @@ use Rattle.vt_delta.specs.Changes as changes
 use Rattle.vt_delta.specs.Changes.{no_change, change_of, changes_of, net}
 use Rattle.vt_delta.specs.Deltas.{HasCounts, AreEach, IsNet}
 use Rattle.vt_delta.specs.declared.delta.Delta.{Delta}
-use Rattle.vt_delta.specs.declared.delta.BaseDelta.{BaseDelta}
 use Rattle.vt_base.specs.declared.value.Value.{Value}
 use Rattle.vt_base.specs.declared.value.Value.TheVariants.{Obj, Int}
 use Rattle.vt_delta.proofs.DeltaLemmas.{net-itself}

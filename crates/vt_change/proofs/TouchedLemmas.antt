@@ -4,10 +4,8 @@ use Rattle.std.proofs.lemmas.Bool.{true≢false, eqb-true, eq-eqb}
 use Rattle.std.proofs.lemmas.Bool.Decides.{nat_tests}
 use Rattle.std.proofs.lemmas.List.Elements.{All-contains, Contains-append_left, Contains-append_right, Contains-append_cases}
 use Rattle.std.proofs.lemmas.List.Kept.{IsStrictlySortedBy-filter}
-use Rattle.std.specs.Prelude.{◌<◌, ◌≢◌, ◌↔◌, ◌==◌, pos, nat_lt, is_some, Contains, filter, find, Option, Some, None, option_map}
+use Rattle.std.specs.Prelude.{◌<◌, ◌≢◌, ◌==◌, pos, nat_lt, is_some, Contains, filter, Option, Some, None, option_map}
 use Rattle.std.specs.List.{filter_map}
-use Rattle.std.proofs.lemmas.Cmp.{then_total, on_total, nat_cmp_total}
-use Rattle.std.specs.Cmp.{IsTotalOrder}
 use Rattle.vt_facts.proofs.BoolLemmas.{and_left, and_right}
 use Rattle.vt_facts.proofs.MemberLemmas.{Contains-map, Contains-from_map, Contains-find, find-some, Contains-filter, Contains-from_filter}
 use Rattle.vt_facts.proofs.ChosenLemmas.{Contains-filter_map, Contains-from_filter_map}

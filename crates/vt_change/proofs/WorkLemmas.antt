@@ -1,6 +1,6 @@
 -- A transaction under way goes on with each change, and can go back at any time.
-use Rattle.std.proofs.Common.{◌≡◌, ◌≤◌, ◌<◌, ◌+◌, ℕ, List, [], ◌∷◌, ◌++◌, refl, sym, ap, subst, ◌∙◌, ◌⊎◌, inl, inr, arith, reverse}
-use Rattle.std.specs.Prelude.{Contains, Result, Ok, Err}
+use Rattle.std.proofs.Common.{◌≡◌, ◌≤◌, ◌<◌, ◌+◌, ℕ, List, [], ◌∷◌, ◌++◌, refl, sym, ap, subst, ◌∙◌, inl, inr, arith, reverse}
+use Rattle.std.specs.Prelude.{Contains, Ok, Err}
 use Rattle.vt_delta.specs.Deltas.{HasCounts}
 use Rattle.vt_delta.specs.Changes.{change_of}
 use Rattle.vt_base.specs.declared.numbers.ObjId.{ObjId}
@@ -8,7 +8,7 @@ use Rattle.vt_model.specs.Metamodel.{Metamodel}
 use Rattle.vt_model.specs.Model.{Model}
 use Rattle.vt_model.specs.Base.{counts_of}
 use Rattle.vt_model.specs.Effect.{effect}
-use Rattle.vt_model.specs.Transaction.{Stop, stopped_at, and_then, changes_from}
+use Rattle.vt_model.specs.Transaction.{stopped_at, and_then, changes_from}
 use Rattle.vt_model.specs.Touched.{AreTouched}
 use Rattle.vt_model.specs.Sound.{IsSound}
 use Rattle.vt_model.specs.Storable.{GivesStorable}
@@ -18,15 +18,14 @@ use Rattle.vt_model.specs.declared.change.Change.{Change}
 use Rattle.vt_model.specs.declared.change.Refusal.{Refusal}
 use Rattle.vt_model.proofs.KeptLemmas.{Keeps-effect}
 use Rattle.vt_graph.specs.Held.{Held}
-use Rattle.vt_store.specs.Edits.{edit_of}
 use Rattle.vt_store.specs.Undoing.{HeldEdit}
 use Rattle.vt_store.specs.Changing.{Makes}
 use Rattle.vt_store.specs.declared.fault.StoreFault.{StoreFault}
 use Rattle.vt_store.specs.declared.fault.StoreFault.TheVariants as store
-use Rattle.vt_change.specs.Leading.{IsBack, IsReverted, LeadBack}
+use Rattle.vt_change.specs.Leading.{IsReverted, LeadBack}
 use Rattle.vt_change.specs.declared.fault.ApplyFault.TheVariants as apply
 use Rattle.vt_change.specs.declared.telling.Told.{Told}
-use Rattle.vt_change.specs.Inside.Telling.{whole_rows, HasPlaces, Tells, IsTold}
+use Rattle.vt_change.specs.Inside.Telling.{HasPlaces, Tells, IsTold}
 use Rattle.vt_change.specs.Inside.Naming.{all_named, IsInOrder}
 use Rattle.vt_change.specs.Inside.Working.{AreKnown, IsUnderWay, StillLeadBack, fault_at}
 use Rattle.vt_change.proofs.BornLemmas.{known-effect}

@@ -2,7 +2,7 @@
 ghost use Rattle.std.specs.Prelude.{◌≡◌, ◌<◌, [], ◌∷◌, length, map, fold, All, OnOk};
 ghost use Rattle.vt_delta.specs.Changes.{change_of, changes_of, turned_at};
 ghost use Rattle.vt_model.specs.Model.{Model};
-ghost use Rattle.vt_change.specs.Inside.Telling.{object_rows, value_rows, link_rows, whole_rows, moved, turned, Moves, Turns, HasPlaces, Tells, IsTold};
+ghost use Rattle.vt_change.specs.Inside.Telling.{object_rows, value_rows, link_rows, whole_rows, moved, Moves, Turns, HasPlaces, Tells, IsTold};
 
 use std::alloc::Global;
 use vt_base::{ClassId, NoMemory, Tuple, Value};

@@ -1,5 +1,5 @@
 -- The objects that rows name, of those that lived before and live still.
-use Rattle.std.specs.Prelude.{ℕ, ◌&&◌, nat_lt, is_some, if◌then◌else◌, List, [], ◌∷◌, ◌++◌, Option, None, Some, Contains}
+use Rattle.std.specs.Prelude.{ℕ, ◌&&◌, nat_lt, is_some, if◌then◌else◌, List, ◌∷◌, ◌++◌, Option, None, Some, Contains}
 use Rattle.std.specs.List.{filter_map}
 use Rattle.vt_delta.specs.Changes.{Change}
 use Rattle.vt_base.specs.declared.numbers.ObjId.{ObjId}

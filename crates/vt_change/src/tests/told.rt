@@ -1,5 +1,4 @@
 // What a transaction told, and what a store has, as text.
-ghost use Rattle.std.specs.Prelude.{◌≡◌};
 ghost use Rattle.vt_delta.specs.Deltas.{HasCounts};
 ghost use Rattle.vt_model.specs.Base.{counts_of};
 

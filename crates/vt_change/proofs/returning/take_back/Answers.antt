@@ -1,5 +1,5 @@
 use Rattle.vt_change.specs.Leading.{IsReverted}
-use Rattle.vt_change.proofs.LeadLemmas.{fits_popped, lead_popped}
+use Rattle.vt_change.proofs.LeadLemmas.{lead_popped}
 use Rattle.vt_change.proofs.returning.take_back.Goals as goal
 
 -- and those before it lead on
