@@ -1,8 +1,7 @@
 -- The deltas at all numbers, as the change at one of them turns.
-use Rattle.std.proofs.Common.{◌≡◌, ℕ, zero, suc, List, [], ◌∷◌, Option, Some, None, refl, sym, ap, ◌∙◌, arith}
-use Rattle.std.specs.Prelude.{map, slice_get, slice_set, slice_index_or}
+use Rattle.std.proofs.Common.{◌≡◌, ℕ, zero, suc, List, [], ◌∷◌, Some, refl, sym, ap, ◌∙◌, arith}
 use Rattle.vt_delta.specs.Deltas.{AreEach}
-use Rattle.vt_delta.specs.Changes.{Change, change_of, no_change, changes_of, turned_at}
+use Rattle.vt_delta.specs.Changes.{Change, change_of, changes_of, turned_at}
 use Rattle.vt_delta.specs.declared.delta.Delta.{Delta}
 
 first_is : (c d : Change) (cs ds : List Change) → (c ∷ cs) ≡ (d ∷ ds) → c ≡ d

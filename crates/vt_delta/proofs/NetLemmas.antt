@@ -1,11 +1,11 @@
 -- A net delta stays net while rows come and go one at a time.
 use Rattle.std.proofs.Common.{◌≡◌, Bool, true, false, not, ◌&&◌, ◌||◌, List, [], ◌∷◌, refl, sym, ap, ◌∙◌}
-use Rattle.std.specs.Prelude.{cond, filter, fold}
-use Rattle.std.specs.Ordering.{eq_by_cmp, is_eq}
+use Rattle.std.specs.Prelude.{cond, fold}
+use Rattle.std.specs.Ordering.{eq_by_cmp}
 use Rattle.vt_sorted.specs.Ascending.{with_item, without_item}
 use Rattle.vt_base.specs.Order.{tuple_cmp}
 use Rattle.vt_base.specs.Rows.{Ascends, has_row}
-use Rattle.vt_delta.specs.Changes.{Change, without, net, after_coming, after_going}
+use Rattle.vt_delta.specs.Changes.{without, net, after_coming, after_going}
 use Rattle.vt_base.specs.Inside.OrderLaws.{IsTotalOrder-tuple_cmp}
 use Rattle.vt_base.specs.declared.value.Value.{Value}
 use Rattle.vt_base.proofs.OrderLemmas.{exact-tuple_cmp}

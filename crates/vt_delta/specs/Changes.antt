@@ -1,5 +1,5 @@
 -- Changes of a set of rows: what came and what went.
-use Rattle.std.specs.Prelude.{◌≡◌, ℕ, List, [], filter, fold, map, length, not, cond, true, false, slice_set, slice_index_or}
+use Rattle.std.specs.Prelude.{◌≡◌, ℕ, List, [], filter, fold, map, not, cond, true, false, slice_set, slice_index_or}
 use Rattle.vt_sorted.specs.Ascending.{with_item, without_item}
 use Rattle.vt_base.specs.Order.{tuple_cmp}
 use Rattle.vt_base.specs.Rows.{has_row}

@@ -1,33 +1,46 @@
-// A delta for each of some numbers, kept up to the last that has got a row.
-ghost use Rattle.std.specs.Prelude.{◌≡◌, ◌<◌, ◌+◌, ◌++◌, length, Some, slice_get, OnOk, OnErr, replicate};
-ghost use Rattle.vt_delta.specs.Changes.{after_coming, after_going, changes_of, no_change, turned_at};
+// A delta for each of some numbers, kept for those alone that have got a row.
+ghost use Rattle.std.specs.Prelude.{◌≡◌, ◌≢◌, ◌<◌, ℕ, length, Some, slice_get, OnOk, OnErr, replicate};
+ghost use Rattle.vt_delta.specs.Changes.{after_coming, after_going, change_of, changes_of, no_change, turned_at};
+ghost use Rattle.vt_delta.specs.Inside.Kept.{change_at, moved};
 
 use crate::Delta;
 use std::alloc::Global;
+use std::collections::BTreeMap;
 use std::marker::Model;
 use vt_base::{List, NoMemory, Tuple};
 
 /// A delta for each number below a count. Contracts see the list of them. A delta is made when a
-/// row first comes or goes at its number or above; one empty delta stands for all beyond.
+/// row first comes or goes at its number; one empty delta stands for all others.
 #[derive(Debug, Drop)]
 pub struct Deltas {
-    kept: Vec<Delta>,
-    // How many deltas are beyond those that are kept.
-    beyond: usize,
+    // The deltas that were handed over, of the first numbers.
+    given: Vec<Delta>,
+    // Those of the numbers above that have got a row.
+    kept: BTreeMap<u16, Delta>,
+    // How many numbers are above those of the deltas that were handed over.
+    above: usize,
     empty: Delta,
     alloc: Global,
 }
 
 impl Model for Deltas {
-    ghost use Rattle.std.specs.Prelude.{◌≡◌, ◌++◌, List, replicate};
+    ghost use Rattle.std.specs.Prelude.{◌≡◌, ◌++◌, List, length};
     ghost use Rattle.vt_delta.specs.declared.delta.Delta.{Delta as Item};
     ghost use Rattle.vt_delta.specs.Changes.{change_of, no_change};
+    ghost use Rattle.vt_delta.specs.Inside.Kept.{deltas_from};
 
     ghost Value = { List Item };
 
-    ghost view = { λ d. d.kept.items ++ replicate d.beyond d.empty };
+    ghost view = { λ d. d.given.items ++ deltas_from d.kept d.empty (length d.given.items) d.above };
 
     ghost invariant = { λ d. change_of d.empty ≡ no_change };
+}
+
+// Whether a row comes or goes.
+#[derive(Clone, Copy)]
+enum Way {
+    Coming,
+    Going,
 }
 
 impl Deltas {
@@ -36,8 +49,9 @@ impl Deltas {
         ensures { changes_of result ≡ replicate count no_change }
     {
         Deltas {
-            kept: Vec::new(alloc),
-            beyond: count,
+            given: Vec::new(alloc),
+            kept: BTreeMap::new(alloc),
+            above: count,
             empty: Delta::new(alloc),
             alloc,
         }
@@ -47,11 +61,12 @@ impl Deltas {
     pub fn from_list(deltas: List<Delta>) -> Deltas
         ensures { result ≡ deltas }
     {
-        let kept = deltas.into_vec();
-        let alloc = *kept.allocator();
+        let given = deltas.into_vec();
+        let alloc = *given.allocator();
         Deltas {
-            kept,
-            beyond: 0,
+            given,
+            kept: BTreeMap::new(alloc),
+            above: 0,
             empty: Delta::new(alloc),
             alloc,
         }
@@ -62,10 +77,12 @@ impl Deltas {
         requires there { n < length self.now }
         ensures { slice_get self.now n ≡ Some result.now }
     {
-        if (n as usize) < self.kept.len() {
-            &self.kept[n as usize]
-        } else {
-            &self.empty
+        if (n as usize) < self.given.len() {
+            return &self.given[n as usize];
+        }
+        match self.kept.get(&n) {
+            Some(delta) => delta,
+            None => &self.empty,
         }
     }
 
@@ -76,8 +93,7 @@ impl Deltas {
             turned_at (λ change. after_coming change row) (changes_of self.old) n) }
         ensures unchanged { OnErr result (changes_of self.new ≡ changes_of self.old) }
     {
-        keep_to(self.alloc, &mut self.kept, &mut self.beyond, n)?;
-        self.kept[n as usize].row_comes(row)
+        self.row_moves(Way::Coming, n, row)
     }
 
     /// A row goes from the rows with a number.
@@ -87,21 +103,44 @@ impl Deltas {
             turned_at (λ change. after_going change row) (changes_of self.old) n) }
         ensures unchanged { OnErr result (changes_of self.new ≡ changes_of self.old) }
     {
-        keep_to(self.alloc, &mut self.kept, &mut self.beyond, n)?;
-        self.kept[n as usize].row_goes(row)
+        self.row_moves(Way::Going, n, row)
+    }
+
+    fn row_moves(&mut self, way: Way, n: u16, row: Tuple) -> Result<(), NoMemory>
+        requires there { n < length self.old }
+        ensures moved { OnOk result (changes_of self.new ≡ turned_at (moved way row) (changes_of self.old) n) }
+        ensures unchanged { OnErr result (changes_of self.new ≡ changes_of self.old) }
+    {
+        if (n as usize) < self.given.len() {
+            move_one(&mut self.given[n as usize], way, row)
+        } else {
+            move_kept(self.alloc, &mut self.kept, way, n, row)
+        }
     }
 }
 
-// Keeps the deltas up to a number.
-fn keep_to(alloc: Global, kept: &mut Vec<Delta>, beyond: &mut usize, n: u16) -> Result<(), NoMemory>
-    requires there { n < length kept.old.items + beyond.old }
-    ensures reached { OnOk result (n < length kept.new.items) }
-    ensures same { changes_of kept.new.items ++ replicate beyond.new no_change ≡
-        changes_of kept.old.items ++ replicate beyond.old no_change }
+fn move_one(delta: &mut Delta, way: Way, row: Tuple) -> Result<(), NoMemory>
+    ensures moved { OnOk result (change_of delta.new ≡ moved way row (change_of delta.old)) }
+    ensures unchanged { OnErr result (change_of delta.new ≡ change_of delta.old) }
 {
-    while kept.len() <= n as usize {
-        kept.push(Delta::new(alloc))?;
-        *beyond -= 1;
+    match way {
+        Way::Coming => delta.row_comes(row),
+        Way::Going => delta.row_goes(row),
     }
-    Ok(())
+}
+
+// A row comes or goes at a number. Where none is kept there, the row has the first delta of it.
+fn move_kept(
+    alloc: Global,
+    kept: &mut BTreeMap<u16, Delta>,
+    way: Way,
+    n: u16,
+    row: Tuple,
+) -> Result<(), NoMemory>
+    ensures moved { OnOk result (change_at kept.new n ≡ moved way row (change_at kept.old n)) }
+    ensures unchanged { OnErr result (change_at kept.new n ≡ change_at kept.old n) }
+    ensures others { (q : ℕ) → q ≢ n → change_at kept.new q ≡ change_at kept.old q }
+{
+    let delta = kept.entry(n)?.or_insert(Delta::new(alloc));
+    move_one(delta, way, row)
 }

@@ -1,8 +1,8 @@
 // What a change of rows is, over small sets of numbers.
-use crate::{BaseDelta, Delta};
+use crate::{BaseDelta, Delta, Deltas};
 use std::alloc::Global;
 use std::test::Fail;
-use vt_base::{AttrId, ClassId, List, NoMemory, Rows, Tuple, Value};
+use vt_base::{AttrId, ClassId, List, NoMemory, RefId, Rows, Tuple, Value};
 
 fn row(alloc: Global, number: i64) -> Result<Tuple, NoMemory> {
     Tuple::from_slice(alloc, &[Value::Int(number)])
@@ -16,77 +16,140 @@ fn rows(alloc: Global, numbers: &[i64]) -> Result<Rows, NoMemory> {
     Rows::from_vec(alloc, tuples)
 }
 
+// Whether these are the rows, and no others.
 fn are(alloc: Global, found: &Rows, numbers: &[i64]) -> Result<bool, NoMemory> {
-    let expected = rows(alloc, numbers)?;
-    let mut same = found.len() == expected.len();
+    let mut same = found.len() == numbers.len();
     for number in numbers {
         same = same && found.contains(&row(alloc, *number)?);
     }
     Ok(same)
 }
 
+// Whether these came, and these went.
+fn is(alloc: Global, delta: &Delta, added: &[i64], removed: &[i64]) -> Result<bool, NoMemory> {
+    let came = are(alloc, &delta.added, added)?;
+    let went = are(alloc, &delta.removed, removed)?;
+    Ok(came && went)
+}
+
+fn net(alloc: Global, before: &[i64], after: &[i64]) -> Result<Delta, NoMemory> {
+    let first = rows(alloc, before)?;
+    let second = rows(alloc, after)?;
+    Delta::net(alloc, &first, &second)?.copy(alloc)
+}
+
+// Whether the net change of two sets is this one, and leads from the first to the second.
+fn leads(alloc: Global, sets: [&[i64]; 4]) -> Result<bool, NoMemory> {
+    let [before, after, added, removed] = sets;
+    let delta = net(alloc, before, after)?;
+    let led = delta.apply(alloc, &rows(alloc, before)?)?;
+    Ok(is(alloc, &delta, added, removed)? && are(alloc, &led, after)?)
+}
+
 #[test]
 fn a_net_delta_leads_from_the_rows_before_to_those_after(rt: HostRuntime) -> Result<(), Fail> {
-    let alloc = rt.alloc();
-    let before = rows(alloc, &[1, 2, 3])?;
-    let after = rows(alloc, &[2, 4])?;
-    let delta = Delta::net(alloc, &before, &after)?;
-    assert!(rt; are(alloc, &delta.added, &[4])?);
-    assert!(rt; are(alloc, &delta.removed, &[1, 3])?);
-    assert!(rt; !delta.is_empty());
-    let led = delta.apply(alloc, &before)?;
-    assert!(rt; are(alloc, &led, &[2, 4])?);
-    let copy = delta.copy(alloc)?;
-    assert!(rt; are(alloc, &copy.added, &[4])?);
-    assert!(rt; are(alloc, &copy.removed, &[1, 3])?);
-    assert!(rt; Delta::net(alloc, &before, &before)?.is_empty());
+    // Before, after, what came, what went.
+    let cases: [[&[i64]; 4]; 4] = [
+        [&[1, 2, 3], &[2, 4], &[4], &[1, 3]],
+        [&[], &[5, 6], &[5, 6], &[]],
+        [&[5, 6], &[], &[], &[5, 6]],
+        [&[1, 2], &[1, 2], &[], &[]],
+    ];
+    for sets in cases {
+        assert!(rt; leads(rt.alloc(), sets)?);
+    }
+    assert!(rt; net(rt.alloc(), &[1, 2], &[1, 2])?.is_empty());
+    assert!(rt; !net(rt.alloc(), &[1, 2], &[1])?.is_empty());
     Ok(())
+}
+
+// The change after some rows came, and those with a number below 0 went.
+fn moved(alloc: Global, moves: &[i64]) -> Result<Delta, NoMemory> {
+    let mut delta = Delta::new(alloc);
+    for number in moves {
+        let moving = row(alloc, number.wrapping_abs())?;
+        if *number > 0 {
+            delta.row_comes(moving)?;
+        } else {
+            delta.row_goes(moving)?;
+        }
+    }
+    Ok(delta)
+}
+
+fn leaves(alloc: Global, moves: &[i64], added: &[i64], removed: &[i64]) -> Result<bool, NoMemory> {
+    is(alloc, &moved(alloc, moves)?, added, removed)
 }
 
 #[test]
 fn rows_that_come_and_go_again_leave_no_trace(rt: HostRuntime) -> Result<(), Fail> {
-    let alloc = rt.alloc();
-    let mut delta = Delta::new(alloc);
-    assert!(rt; delta.is_empty());
-    delta.row_comes(row(alloc, 1)?)?;
-    delta.row_goes(row(alloc, 2)?)?;
-    assert!(rt; are(alloc, &delta.added, &[1])?);
-    assert!(rt; are(alloc, &delta.removed, &[2])?);
-    delta.row_goes(row(alloc, 1)?)?;
-    assert!(rt; are(alloc, &delta.added, &[])?);
-    assert!(rt; are(alloc, &delta.removed, &[2])?);
-    delta.row_comes(row(alloc, 2)?)?;
-    assert!(rt; delta.is_empty());
+    // The moves, what came, what went.
+    let cases: [[&[i64]; 3]; 5] = [
+        [&[], &[], &[]],
+        [&[1, -2], &[1], &[2]],
+        [&[1, -2, -1], &[], &[2]],
+        [&[1, -2, -1, 2], &[], &[]],
+        [&[1, -2, -1, 2, 2, -1], &[2], &[1]],
+    ];
+    for [moves, added, removed] in cases {
+        assert!(rt; leaves(rt.alloc(), moves, added, removed)?);
+    }
+    assert!(rt; moved(rt.alloc(), &[1, -1])?.is_empty());
     Ok(())
 }
 
+// What is seen of 4,000 classes where a row came to the first and one to the last, and of two
+// attributes where one went from the second.
+fn ends(alloc: Global) -> Result<[bool; 4], NoMemory> {
+    let mut change = BaseDelta::none(alloc, 4000, 2, 1);
+    change.classes.row_comes(3999, row(alloc, 7)?)?;
+    change.classes.row_comes(0, row(alloc, 6)?)?;
+    change.attributes.row_goes(1, row(alloc, 8)?)?;
+    let first = is(alloc, change.class(ClassId(0)), &[6], &[])?;
+    let last = is(alloc, change.class(ClassId(3999)), &[7], &[])?;
+    let went = is(alloc, change.attr(AttrId(1)), &[], &[8])?;
+    let still = change.class(ClassId(3998)).is_empty() && change.attr(AttrId(0)).is_empty();
+    Ok([first, last, went, still])
+}
+
 #[test]
-fn a_row_that_comes_to_one_class_is_seen_there_alone(rt: HostRuntime) -> Result<(), Fail> {
-    let alloc = rt.alloc();
-    let mut change = BaseDelta::none(alloc, 3, 2, 1);
-    let object = row(alloc, 7)?;
-    let assigned = row(alloc, 8)?;
-    change.classes.row_comes(1, object)?;
-    change.attributes.row_goes(0, assigned)?;
-    assert!(rt; change.class(ClassId(0)).is_empty());
-    let came = change.class(ClassId(1));
-    assert!(rt; are(alloc, &came.added, &[7])?);
-    let went = change.attr(AttrId(0));
-    assert!(rt; are(alloc, &went.removed, &[8])?);
-    assert!(rt; change.attr(AttrId(1)).is_empty());
+fn a_row_is_seen_at_its_number_alone(rt: HostRuntime) -> Result<(), Fail> {
+    assert_eq!(rt; ends(rt.alloc())?, [true; 4]);
     Ok(())
+}
+
+// Whether deltas that are handed over stay, and move on.
+fn handed_over(alloc: Global) -> Result<[bool; 2], NoMemory> {
+    let mut list = List::new(alloc);
+    list.add(net(alloc, &[1], &[2])?)?;
+    let mut deltas = Deltas::from_list(list);
+    let stayed = is(alloc, deltas.get(0), &[2], &[1])?;
+    deltas.row_comes(0, row(alloc, 1)?)?;
+    Ok([stayed, is(alloc, deltas.get(0), &[2], &[])?])
 }
 
 #[test]
 fn deltas_that_are_handed_over_stay(rt: HostRuntime) -> Result<(), Fail> {
+    assert_eq!(rt; handed_over(rt.alloc())?, [true; 2]);
+    Ok(())
+}
+
+#[test]
+fn a_row_of_the_last_of_many_numbers_is_seen_there_alone(rt: HostRuntime) -> Result<(), Fail> {
     let alloc = rt.alloc();
-    let mut classes = List::new(alloc);
-    let before = rows(alloc, &[1])?;
-    let after = rows(alloc, &[2])?;
-    classes.add(Delta::net(alloc, &before, &after)?)?;
-    let kept = BaseDelta::new(classes, List::new(alloc), List::new(alloc));
-    let given = kept.class(ClassId(0));
-    assert!(rt; are(alloc, &given.added, &[2])?);
-    assert!(rt; are(alloc, &given.removed, &[1])?);
+    let mut change = BaseDelta::none(alloc, 1, 1, 4000);
+    let first = row(alloc, 7)?;
+    let last = row(alloc, 8)?;
+    change.references.row_comes(3999, last)?;
+    change.references.row_goes(0, first)?;
+    let came = change.reference(RefId(3999));
+    assert!(rt; are(alloc, &came.added, &[8])?);
+    assert!(rt; came.removed.is_empty());
+    let went = change.reference(RefId(0));
+    assert!(rt; are(alloc, &went.removed, &[7])?);
+    assert!(rt; went.added.is_empty());
+    for n in [1, 2000, 3998] {
+        assert!(rt; change.reference(RefId(n)).is_empty());
+    }
     Ok(())
 }

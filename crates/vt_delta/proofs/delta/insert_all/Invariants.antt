@@ -1,8 +1,7 @@
 use Rattle.std.proofs.Common.{◌≡◌, length}
-use Rattle.std.specs.Prelude.{◌++◌, fold}
-use Rattle.vt_sorted.specs.Ascending.{with_item, without_item}
+use Rattle.std.specs.Prelude.{fold}
+use Rattle.vt_sorted.specs.Ascending.{with_item}
 use Rattle.vt_base.specs.Order.{tuple_cmp}
-use Rattle.vt_delta.specs.Deltas.{without}
 use Rattle.vt_delta.proofs.delta.insert_all.Given as goal
 
 -- the rows so far, with those to come

@@ -1,7 +1,5 @@
 use Rattle.std.proofs.Common.{◌≡◌, length}
-use Rattle.std.specs.Prelude.{◌++◌, fold}
-use Rattle.vt_sorted.specs.Ascending.{with_item, without_item}
-use Rattle.vt_base.specs.Order.{tuple_cmp}
+use Rattle.std.specs.Prelude.{◌++◌}
 use Rattle.vt_delta.specs.Changes.{without}
 use Rattle.vt_delta.proofs.delta.rows_without.Given as goal
 
