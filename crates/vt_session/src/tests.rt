@@ -160,6 +160,17 @@ fn clients_take_turns_and_each_commits_its_own_changes(rt: HostRuntime) -> Resul
     Ok(())
 }
 
+#[test]
+fn a_commit_works_on_the_model_that_the_last_step_left(rt: HostRuntime) -> Result<(), Fail> {
+    let script = "begin ann\nann create a Shelf\nann create x Book\nbegin bob\nbob delete x\n\
+        commit ann\ncommit bob\nbegin ann\nann set x pages 3\ncommit ann\nmatches book";
+    let expected = "ok\nok\nok\nok\nok\n\
+        step 1 book[+x] shelf[+a] touched[]\nstep 2 book[-x] shelf[] touched[]\n\
+        ok\nok\nchange 0 is refused: an object that is named was deleted\n0 matches\n";
+    assert!(rt; answers_so(rt.alloc(), script, expected)?);
+    Ok(())
+}
+
 // The first so many clients begin, then one of them once more, and one more.
 fn begin_all(alloc: Global, count: u32) -> Result<String, Fail> {
     let mut script = String::new(alloc);
