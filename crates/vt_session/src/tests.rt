@@ -88,7 +88,7 @@ fn add_line<L: Ledger>(
 }
 
 // What a session over the empty library answers to the lines of a script.
-fn answers<L: Ledger>(alloc: Global, script: &str, blank: Blank) -> Result<String, Fail>
+fn answers<L: Ledger>(alloc: Global, script: &Text, blank: Blank) -> Result<String, Fail>
     requires name { blank.name ≡ L.name }
     requires parts { blank.parts ≡ L.parts }
     requires some { 0 < blank.parts }
@@ -96,21 +96,26 @@ fn answers<L: Ledger>(alloc: Global, script: &str, blank: Blank) -> Result<Strin
     let mut steps = Steps::<L>::new(blank);
     let mut session = empty_library(alloc, &mut steps)?;
     let mut text = String::new(alloc);
-    for line in script.lines() {
+    for line in script.as_str().lines() {
         add_line(&mut text, alloc, &mut session, line, &mut steps)?;
     }
     Ok(text)
 }
 
+fn text_of(alloc: Global, script: &str) -> Result<String, Fail> {
+    let script = Text::new(alloc, script)?;
+    answers::<Brand>(alloc, &script, Blank::new(1))
+}
+
 // Whether these are the answers, one a line.
 fn answers_so(alloc: Global, script: &str, expected: &str) -> Result<bool, Fail> {
-    let text = answers::<Brand>(alloc, script, Blank::new(1))?;
+    let text = text_of(alloc, script)?;
     Ok(text.as_str() == expected)
 }
 
 // Whether these are the last answers.
 fn ends_so(alloc: Global, script: &str, expected: &str) -> Result<bool, Fail> {
-    let text = answers::<Brand>(alloc, script, Blank::new(1))?;
+    let text = text_of(alloc, script)?;
     Ok(text.as_str().ends_with(expected))
 }
 
