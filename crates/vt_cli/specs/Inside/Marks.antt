@@ -1,6 +1,6 @@
 -- The lines of events, over what happened to each pattern's matches.
 use Rattle.std.specs.Prelude.{ℕ, List, [], ◌∷◌, ◌++◌, flat_map, fold, codes, if◌then◌else◌}
-use Rattle.std.specs.BTreeSet.{insert_key}
+use Rattle.vt_sorted.specs.Ascending.{with_item}
 use Rattle.vt_base.specs.Order.{tuple_cmp}
 use Rattle.vt_base.specs.Rows.{has_row}
 use Rattle.vt_base.specs.Written.{tuple_text}
@@ -15,7 +15,7 @@ happened events = events.added.items ++ events.removed.items ++ events.updated.i
 
 -- their set
 abbrev pub event_rows : PatternEvents → List (List Value)
-event_rows events = fold (insert_key tuple_cmp) [] (happened events)
+event_rows events = fold (with_item tuple_cmp) [] (happened events)
 
 abbrev pub mark : PatternEvents → List Value → List ℕ
 mark events row =
