@@ -2,7 +2,7 @@
 use crate::{BaseDelta, Delta, Deltas};
 use std::alloc::Global;
 use std::test::Fail;
-use vt_base::{AttrId, ClassId, List, NoMemory, RefId, Rows, Tuple, Value};
+use vt_base::{AttrId, ClassId, List, NoMemory, Rows, Tuple, Value};
 
 fn row(alloc: Global, number: i64) -> Result<Tuple, NoMemory> {
     Tuple::from_slice(alloc, &[Value::Int(number)])
@@ -131,25 +131,5 @@ fn handed_over(alloc: Global) -> Result<[bool; 2], NoMemory> {
 #[test]
 fn deltas_that_are_handed_over_stay(rt: HostRuntime) -> Result<(), Fail> {
     assert_eq!(rt; handed_over(rt.alloc())?, [true; 2]);
-    Ok(())
-}
-
-#[test]
-fn a_row_of_the_last_of_many_numbers_is_seen_there_alone(rt: HostRuntime) -> Result<(), Fail> {
-    let alloc = rt.alloc();
-    let mut change = BaseDelta::none(alloc, 1, 1, 4000);
-    let first = row(alloc, 7)?;
-    let last = row(alloc, 8)?;
-    change.references.row_comes(3999, last)?;
-    change.references.row_goes(0, first)?;
-    let came = change.reference(RefId(3999));
-    assert!(rt; are(alloc, &came.added, &[8])?);
-    assert!(rt; came.removed.is_empty());
-    let went = change.reference(RefId(0));
-    assert!(rt; are(alloc, &went.removed, &[7])?);
-    assert!(rt; went.added.is_empty());
-    for n in [1, 2000, 3998] {
-        assert!(rt; change.reference(RefId(n)).is_empty());
-    }
     Ok(())
 }
