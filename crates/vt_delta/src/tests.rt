@@ -2,7 +2,7 @@
 use crate::{BaseDelta, Delta, Deltas};
 use std::alloc::Global;
 use std::test::Fail;
-use vt_base::{AttrId, ClassId, List, NoMemory, Rows, Tuple, Value};
+use vt_base::{AttrId, ClassId, List, NoMemory, RefId, Rows, Tuple, Value};
 
 fn row(alloc: Global, number: i64) -> Result<Tuple, NoMemory> {
     Tuple::from_slice(alloc, &[Value::Int(number)])
@@ -98,23 +98,32 @@ fn rows_that_come_and_go_again_leave_no_trace(rt: HostRuntime) -> Result<(), Fai
     Ok(())
 }
 
-// What is seen of 4,000 classes where a row came to the first and one to the last, and of two
-// attributes where one went from the second.
-fn ends(alloc: Global) -> Result<[bool; 4], NoMemory> {
-    let mut change = BaseDelta::none(alloc, 4000, 2, 1);
-    change.classes.row_comes(3999, row(alloc, 7)?)?;
-    change.classes.row_comes(0, row(alloc, 6)?)?;
-    change.attributes.row_goes(1, row(alloc, 8)?)?;
-    let first = is(alloc, change.class(ClassId(0)), &[6], &[])?;
-    let last = is(alloc, change.class(ClassId(3999)), &[7], &[])?;
-    let went = is(alloc, change.attr(AttrId(1)), &[], &[8])?;
-    let still = change.class(ClassId(3998)).is_empty() && change.attr(AttrId(0)).is_empty();
-    Ok([first, last, went, still])
+// What is seen of 4,000 references where a row went from the first and one came to the last.
+fn ends(alloc: Global) -> Result<[bool; 3], NoMemory> {
+    let mut change = BaseDelta::none(alloc, 1, 1, 4000);
+    change.references.row_comes(3999, row(alloc, 8)?)?;
+    change.references.row_goes(0, row(alloc, 7)?)?;
+    let first = is(alloc, change.reference(RefId(0)), &[], &[7])?;
+    let last = is(alloc, change.reference(RefId(3999)), &[8], &[])?;
+    let still = change.reference(RefId(3998)).is_empty();
+    Ok([first, last, still])
+}
+
+// What is seen of three classes and two attributes where a row came to one and went from one.
+fn of_each_kind(alloc: Global) -> Result<[bool; 3], NoMemory> {
+    let mut change = BaseDelta::none(alloc, 3, 2, 1);
+    change.classes.row_comes(1, row(alloc, 7)?)?;
+    change.attributes.row_goes(0, row(alloc, 8)?)?;
+    let came = is(alloc, change.class(ClassId(1)), &[7], &[])?;
+    let went = is(alloc, change.attr(AttrId(0)), &[], &[8])?;
+    let still = change.class(ClassId(0)).is_empty() && change.attr(AttrId(1)).is_empty();
+    Ok([came, went, still])
 }
 
 #[test]
 fn a_row_is_seen_at_its_number_alone(rt: HostRuntime) -> Result<(), Fail> {
-    assert_eq!(rt; ends(rt.alloc())?, [true; 4]);
+    assert_eq!(rt; ends(rt.alloc())?, [true; 3]);
+    assert_eq!(rt; of_each_kind(rt.alloc())?, [true; 3]);
     Ok(())
 }
 
