@@ -1,13 +1,13 @@
 -- What calls on buffers are due to answer.
-use Rattle.std.proofs.Common.{◌≡◌, ℕ, ◌<◌, Bool, true, false, List, [], ◌∷◌, ◌++◌, length, get_or, Option, Some, None, Result, Ok, Err, refl, sym, ap, subst, ◌∙◌}
-use Rattle.std.specs.Prelude.{◌==◌, find, position, filter, not, slice_get, slice_set, nat_le, is_some, if◌then◌else◌}
+use Rattle.std.proofs.Common.{◌≡◌, ℕ, ◌<◌, true, false, List, [], ◌∷◌, ◌++◌, length, get_or, Option, Some, None, Ok, Err, refl, sym, ap, ◌∙◌}
+use Rattle.std.specs.Prelude.{position, slice_get, slice_set, nat_le, is_some, if◌then◌else◌}
 use Rattle.std.proofs.lemmas.Bool.{eq-eqb, ne_eqb}
 use Rattle.std.proofs.lemmas.Option.{slice_get-get_or}
 use Rattle.vt_facts.proofs.PositionLemmas.{IsAt-position}
 use Rattle.vt_model.specs.declared.change.Change.{Change}
 use Rattle.vt_session.specs.declared.buffers.Buffer.{Buffer}
 use Rattle.vt_session.specs.declared.fault.SessionFault.TheVariants as fault
-use Rattle.vt_session.specs.Buffers.{Denial, already_open, too_many_open, not_open, too_many_changes, buffer_of, without_buffer, with_change, begun, changed, changed_in}
+use Rattle.vt_session.specs.Buffers.{already_open, too_many_open, not_open, too_many_changes, buffer_of, without_buffer, with_change, begun, changed, changed_in}
 use Rattle.vt_session.specs.Session.{IsDenied}
 use Rattle.vt_session.specs.Inside.Order.{HaveOneEach}
 use Rattle.vt_session.proofs.BufferLemmas.{is_of, only-position, find-only, find-none, none-position, without-none, HaveOneEach-push, set-only}

@@ -1,6 +1,6 @@
 -- The rows of tables that name objects which have names hold live objects alone.
-use Rattle.std.proofs.Common.{◌≡◌, ℕ, zero, suc, Bool, true, false, ◌||◌, ◌==◌, List, [], ◌∷◌, map, Option, Some, None, refl, sym, ap, subst, ◌∙◌, cond}
-use Rattle.std.specs.Prelude.{find, slice_get, unwrap_or, option_map, is_some, Contains, IsSome}
+use Rattle.std.proofs.Common.{◌≡◌, ℕ, zero, suc, Bool, true, false, ◌||◌, ◌==◌, List, [], ◌∷◌, map, Some, refl, sym, subst, cond}
+use Rattle.std.specs.Prelude.{find, slice_get, unwrap_or, option_map, Contains, IsSome}
 use Rattle.std.specs.List.{AllByRecursion}
 use Rattle.std.specs.Ordering.{eq_by_cmp}
 use Rattle.std.proofs.lemmas.Bool.{false≢true}
@@ -13,13 +13,11 @@ use Rattle.vt_base.specs.Names.{EnumNames, ObjectName, IsNamed, AreNamed}
 use Rattle.vt_base.specs.Inside.OrderLaws.{IsTotalOrder-tuple_cmp}
 use Rattle.vt_base.specs.declared.numbers.ObjId.{ObjId}
 use Rattle.vt_base.specs.declared.numbers.ClassId.{ClassId}
-use Rattle.vt_base.specs.declared.numbers.PatternId.{PatternId}
 use Rattle.vt_base.specs.declared.value.Value.{Value}
 use Rattle.vt_base.specs.declared.value.Value.TheVariants as value
 use Rattle.vt_base.proofs.OrderLemmas.{exact-tuple_cmp, eq_by_cmp-Decides}
 use Rattle.vt_model.specs.Model.{Model, object_names}
 use Rattle.vt_model.specs.Fits.{IsLive}
-use Rattle.vt_model.specs.Touched.{Lives}
 use Rattle.vt_model.specs.declared.model.Object.{Object}
 use Rattle.vt_query.specs.Holding.{table_of}
 use Rattle.vt_session.specs.Inside.Next.{AllHoldLive}

@@ -1,7 +1,7 @@
 -- What tests begin with: nothing that came in.
 use Rattle.std.proofs.Common.{◌≡◌, ℕ, zero, suc, List, [], ◌∷◌, length, Some, refl, ap}
 use Rattle.std.specs.Prelude.{slice_get, replicate}
-use Rattle.vt_delta.specs.Deltas.{no_change, change_of, changes_of, AreEach, HasCounts, IsNet}
+use Rattle.vt_delta.specs.Deltas.{no_change, change_of, changes_of, IsNet}
 use Rattle.vt_delta.specs.declared.delta.Delta.{Delta}
 use Rattle.vt_delta.specs.declared.delta.BaseDelta.{BaseDelta}
 use Rattle.vt_model.specs.Base.{base_of}

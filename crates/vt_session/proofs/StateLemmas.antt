@@ -1,19 +1,17 @@
 -- A session, and the state of the run that it stands for.
-use Rattle.std.proofs.Common.{◌≡◌, ℕ, suc, ◌+◌, List, [], ◌∷◌, length, Option, Some, None, Result, Ok, Err, refl, sym, ap, subst, ◌∙◌, arith}
-use Rattle.std.specs.Prelude.{◌&&◌, Bool, IfErr, OnOk, All, map, position, slice_get, option_map, option_and_then}
+use Rattle.std.proofs.Common.{◌≡◌, ℕ, suc, ◌+◌, List, ◌∷◌, length, Some, None, Result, Ok, Err, refl, sym, ap, subst, ◌∙◌, arith}
+use Rattle.std.specs.Prelude.{◌&&◌, Bool, IfErr, OnOk, map, position, slice_get, option_map, option_and_then}
 use Rattle.std.proofs.lemmas.Option.{slice_get-map}
 use Rattle.vt_facts.specs.Names.{is_name}
 use Rattle.vt_query.specs.declared.program.Pattern.{Pattern}
 use Rattle.std.proofs.lemmas.List.Elements.{All-cons}
 use Rattle.vt_base.specs.declared.value.Value.{Value}
-use Rattle.vt_model.specs.Metamodel.{Metamodel}
 use Rattle.vt_model.specs.Model.{Model}
 use Rattle.vt_model.specs.Touched.{AreTouched}
 use Rattle.vt_model.specs.Transaction.{Stop, transaction}
 use Rattle.vt_model.specs.declared.change.Refusal.{Refusal}
 use Rattle.vt_query.specs.Tables.{StandFor}
-use Rattle.vt_query.specs.declared.program.Program.{Program}
-use Rattle.vt_history.specs.History.{commit, Step, IsHistory, model_after, tables_after}
+use Rattle.vt_history.specs.History.{commit, Step, IsHistory, tables_after}
 use Rattle.vt_history.specs.Report.{AreOfPatterns}
 use Rattle.vt_history.specs.declared.report.StepReport.{StepReport}
 use Rattle.vt_session.specs.declared.buffers.Buffer.{Buffer}

@@ -1,12 +1,11 @@
 -- The run of a session as it is to be: its steps, and the open buffers.
 use Rattle.std.specs.Prelude.{◌≡◌, ℕ, List, [], ◌∷◌, Option, Some, None, Result, Ok, Err}
-use Rattle.vt_base.specs.declared.value.Value.{Value}
 use Rattle.vt_model.specs.Metamodel.{Metamodel}
 use Rattle.vt_model.specs.Model.{Model}
 use Rattle.vt_model.specs.Transaction.{Stop, transaction}
 use Rattle.vt_query.specs.Tables.{StandFor}
 use Rattle.vt_query.specs.declared.program.Program.{Program}
-use Rattle.vt_history.specs.History.{Cause, load, commit, Step, model_after}
+use Rattle.vt_history.specs.History.{Cause, load, Step, model_after}
 use Rattle.vt_session.specs.declared.buffers.Buffer.{Buffer}
 use Rattle.vt_session.specs.Buffers.{Denial, not_open, refused, buffer_of, without_buffer}
 

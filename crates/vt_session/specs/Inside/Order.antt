@@ -1,5 +1,5 @@
 -- What holds of every session.
-use Rattle.std.specs.Prelude.{◌≡◌, ◌≤◌, ℕ, true, List, map, length}
+use Rattle.std.specs.Prelude.{◌≡◌, ◌≤◌, true, List, map, length}
 use Rattle.vt_facts.specs.Names.{is_distinct}
 use Rattle.vt_base.specs.declared.value.Value.{Value}
 use Rattle.vt_model.specs.Base.{counts_of}

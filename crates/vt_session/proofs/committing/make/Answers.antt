@@ -1,4 +1,4 @@
-use Rattle.std.proofs.Common.{◌≡◌, sym, subst}
+use Rattle.std.proofs.Common.{sym, subst}
 use Rattle.std.specs.Prelude.{map}
 use Rattle.vt_model.specs.Metamodel.{enum_names}
 use Rattle.vt_model.specs.Base.{counts_of}

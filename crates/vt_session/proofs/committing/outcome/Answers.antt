@@ -1,4 +1,4 @@
-use Rattle.std.proofs.Common.{◌≡◌, length, refl, sym, subst, ap, ◌∙◌, ◌≤◌}
+use Rattle.std.proofs.Common.{length, refl, sym, subst, ap, ◌∙◌, ◌≤◌}
 use Rattle.std.specs.Prelude.{map}
 use Rattle.std.proofs.lemmas.List.{length-map}
 use Rattle.vt_model.specs.Metamodel.{enum_names}

@@ -1,5 +1,4 @@
-use Rattle.std.proofs.Common.{◌≡◌, Some, Ok, Err, length, Result, sym, subst, ap, ◌∙◌, arith, ◌<◌}
-use Rattle.std.specs.Prelude.{IfOk, map, slice_get}
+use Rattle.std.proofs.Common.{Some, length, sym, ap, ◌∙◌, arith, ◌<◌}
 use Rattle.std.proofs.lemmas.Option.{slice_get-get_or}
 use Rattle.vt_session.proofs.NextLemmas.{IsOfPattern-at, if_ok}
 use Rattle.vt_session.proofs.committing.pattern_events.Goals as goal

@@ -1,5 +1,5 @@
 use Rattle.std.proofs.Common.{◌≡◌, Some, None, sym, ap, ◌∙◌}
-use Rattle.std.specs.Prelude.{map, option_map, position}
+use Rattle.std.specs.Prelude.{option_map, position}
 use Rattle.vt_session.proofs.StateLemmas.{is_shown, named_at, none_named}
 use Rattle.vt_session.proofs.session.Session.matches.Goals as goal
 
