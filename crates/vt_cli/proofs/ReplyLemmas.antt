@@ -60,6 +60,14 @@ denied due fault.TooManyChanges word name text d says = record { denial = d.0; i
 denied due (fault.Refused at why) word name text d says = record { denial = d.0; is = d.1; of = d.2; says = says d.0 d.2 }
 denied due fault.NoMemory word name text d says = absurd says
 
+-- the text that tells a refused transaction
+pub says_refused : {E : Type 0} (r : Result (List ℕ) E) (at : ℕ) (why : Refusal) (word name what : List ℕ)
+    → what ≡ denial_text (refused (record { at = at; why = why })) → IfOk r (λ text. text ≡ told word name what)
+    → IfOk r (λ text. Denies (fault.Refused at why) word name text)
+says_refused r at why word name what is said =
+    IfOk-map r (λ text. text ≡ told word name what) (λ text. Denies (fault.Refused at why) word name text)
+    (λ text says denial of. says ∙ ap (told word name) (is ∙ ap denial_text (sym of))) said
+
 -- ---- a run that goes on
 
 module _ (old new : Kept) (one : IsOfOne old new) where
