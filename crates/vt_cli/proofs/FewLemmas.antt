@@ -1,6 +1,7 @@
 -- What a session asks of a program and of what is new in a model.
 use Rattle.std.proofs.Common.{◌≡◌, ℕ, suc, ◌≤◌, length, Bool, true, false, not, ◌&&◌, cond, List, [], ◌∷◌, Option, Some, None, option_map, refl, sym, ap, subst, ◌∙◌, arith}
 use Rattle.std.specs.Prelude.{nat_le, filter, slice_get, map, if◌then◌else◌}
+use Rattle.std.proofs.lemmas.Bool.Decides.{nat_tests}
 use Rattle.vt_facts.specs.Names.{is_distinct}
 use Rattle.vt_facts.specs.Parts.{◌>>=◌}
 use Rattle.vt_base.specs.Base.{BaseRows}
@@ -27,15 +28,17 @@ some_same x y e = cc
 module _ {A B : Type 0} (f : A → Option B) where
   length-all_of : (xs : List A) (ys : List B) → all_of f xs ≡ Some ys → length ys ≡ length xs
   length-all_of [] ys e = ap length (sym (some_same [] ys e))
-  length-all_of (x ∷ xs) ys e = first (f x) e
+  length-all_of (x ∷ xs) ys e = first (λ zs is. length-all_of xs zs is) (f x) e
     where
-      rest : (y : B) (found : Option (List B)) → all_of f xs ≡ found → (found >>= λ zs. Some (y ∷ zs)) ≡ Some ys → length ys ≡ suc (length xs)
-      rest y None is e = absurd (let none : ⊥ = cc in none)
-      rest y (Some zs) is e = ap length (sym (some_same (y ∷ zs) ys e)) ∙ ap suc (length-all_of xs zs is)
+      rest : ((zs : List B) → all_of f xs ≡ Some zs → length zs ≡ length xs) → (y : B) (found : Option (List B)) → all_of f xs ≡ found
+          → (found >>= λ zs. Some (y ∷ zs)) ≡ Some ys → length ys ≡ suc (length xs)
+      rest shorter y None is e = absurd (let none : ⊥ = cc in none)
+      rest shorter y (Some zs) is e = ap length (sym (some_same (y ∷ zs) ys e)) ∙ ap suc (shorter zs is)
 
-      first : (found : Option B) → (found >>= λ y. all_of f xs >>= λ zs. Some (y ∷ zs)) ≡ Some ys → length ys ≡ suc (length xs)
-      first None e = absurd (let none : ⊥ = cc in none)
-      first (Some y) e = rest y (all_of f xs) refl e
+      first : ((zs : List B) → all_of f xs ≡ Some zs → length zs ≡ length xs) → (found : Option B)
+          → (found >>= λ y. all_of f xs >>= λ zs. Some (y ∷ zs)) ≡ Some ys → length ys ≡ suc (length xs)
+      first shorter None e = absurd (let none : ⊥ = cc in none)
+      first shorter (Some y) e = rest shorter y (all_of f xs) refl e
 
 few_of : (meta : Metamodel) (tree : FileTree) (program : Program) → narrow_program meta tree ≡ Some program → length program.patterns ≤ 512
 unfolding narrow_program

@@ -82,6 +82,14 @@ module _ (named : (meta : Metamodel) (g : Model) (counts : Counts) (program : Pr
       asked_named (enum_names kept.meta) (all_names kept.model) kept.program kept.tables name rows
       (named_among_all kept.meta kept.model kept.program kept.tables sound valid at.narrow stand) asked
 
+  -- the same of a store that keeps the model
+  pub matches_in_store : (meta : Metamodel) (g : Model) (kept : Kept) (state : State) (name : List ℕ) (rows : List (List Value))
+      → meta ≡ kept.meta → g ≡ kept.model → IsSound meta → IsValid meta g
+      → IsAt kept state → table_in kept.program kept.tables name ≡ Some rows → AllNamed (enum_names meta) (all_names g) rows
+  matches_in_store meta g kept state name rows meta_is g_is sound valid at asked =
+      subst (λ m. AllNamed (enum_names m) (all_names g) rows) (sym meta_is) (subst (λ h. AllNamed (enum_names kept.meta) (all_names h) rows) (sym g_is)
+      (matches_named kept state name rows (subst IsSound meta_is sound) (subst (IsValid kept.meta) g_is (subst (λ m. IsValid m g) meta_is valid)) at asked))
+
   -- ---- events
 
   module _ (keeps : (meta : Metamodel) (g after : Model) (changes : List Change)

@@ -14,19 +14,35 @@ use Rattle.vt_cli.specs.declared.ending.Outcome.{Outcome}
 -- ---- fronts of two texts
 
 take_over : (bs cs : List ℕ) (n : ℕ) → take (length bs + n) (bs ++ cs) ≡ bs ++ take n cs
-take_over [] cs n = refl
-take_over (b ∷ bs) cs n = ap (λ l. b ∷ l) (take_over bs cs n)
+take_over [] cs n = ap (λ m. take m cs) none_more
+  where
+    none_more : 0 + n ≡ n
+    none_more = omega arith
+take_over (b ∷ bs) cs n = ap (λ m. take m (b ∷ (bs ++ cs))) one_more ∙ ap (λ l. b ∷ l) (take_over bs cs n)
+  where
+    one_more : suc (length bs) + n ≡ suc (length bs + n)
+    one_more = omega arith
+
+none : List ℕ
+none = []
+
+take_none : (n : ℕ) → take n none ≡ none
+take_none zero = refl
+take_none (suc n) = refl
 
 take_within : (bs cs : List ℕ) (n : ℕ) → take (min n (length bs)) (bs ++ cs) ≡ take n bs
-take_within [] cs n = rw (min_zero n) refl
+take_within [] cs n = ap (λ m. take m cs) least ∙ sym (take_none n)
   where
-    min_zero : (n : ℕ) → min n 0 ≡ 0
-    min_zero n = omega arith
-take_within (b ∷ bs) cs zero = refl
-take_within (b ∷ bs) cs (suc n) = rw (min_suc n (length bs)) (ap (λ l. b ∷ l) (take_within bs cs n))
+    least : min n 0 ≡ 0
+    least = omega arith
+take_within (b ∷ bs) cs zero = ap (λ m. take m (b ∷ (bs ++ cs))) least
   where
-    min_suc : (m n : ℕ) → min (suc m) (suc n) ≡ suc (min m n)
-    min_suc m n = omega arith
+    least : min 0 (suc (length bs)) ≡ 0
+    least = omega arith
+take_within (b ∷ bs) cs (suc n) = ap (λ m. take m (b ∷ (bs ++ cs))) lesser ∙ ap (λ l. b ∷ l) (take_within bs cs n)
+  where
+    lesser : min (suc n) (suc (length bs)) ≡ suc (min n (length bs))
+    lesser = omega arith
 
 -- one text whole, and then a front of another
 pub front_after : (a b c : Option (List ℕ)) (bs cs : List ℕ) → Appends a b bs → AppendsPrefix b c cs → AppendsPrefix a c (bs ++ cs)

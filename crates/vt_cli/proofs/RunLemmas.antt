@@ -29,7 +29,7 @@ use Rattle.vt_cli.proofs.ReachLemmas.{IsTabled, IsTabled-at, some_answer}
 
 same_steps : (word client : List ℕ) (due : Result (List Buffer) Denial) (state after : State) (text : List ℕ) → BufferReply word client due state after text
     → length after.steps ≤ length state.steps + 1
-same_steps word client (Ok open) state after text reply = subst (λ (s : State). length s.steps ≤ length state.steps + 1) (sym reply.0) (omega arith)
+same_steps word client (Ok buffers) state after text reply = subst (λ (s : State). length s.steps ≤ length state.steps + 1) (sym reply.0) (omega arith)
 same_steps word client (Err denial) state after text reply = subst (λ (s : State). length s.steps ≤ length state.steps + 1) (sym reply.0) (omega arith)
 
 denied_steps : (denial : Denial) (client : List ℕ) (state : State) → length ((after_denial denial client state).steps) ≤ length state.steps + 1
