@@ -1,10 +1,9 @@
 -- The events of a pattern, by what its rows were and are.
-use Rattle.std.proofs.Common.{◌≡◌, Bool, true, false, not, ◌&&◌, ◌↔◌, List, refl, sym, ap, ◌∙◌}
-use Rattle.std.specs.Prelude.{filter, Contains}
+use Rattle.std.proofs.Common.{◌≡◌, Bool, true, not, ◌&&◌, List, sym, ap, ◌∙◌}
+use Rattle.std.specs.Prelude.{filter}
 use Rattle.std.proofs.lemmas.Cmp.{eq_by_cmp_equiv}
 use Rattle.std.proofs.lemmas.Map.Made.{is_member-filter}
 use Rattle.vt_facts.proofs.BoolLemmas.{and_left, and_right, not_true}
-use Rattle.vt_base.specs.Order.{tuple_cmp}
 use Rattle.vt_base.specs.Rows.{Ascends, has_row}
 use Rattle.vt_delta.specs.Deltas.{without}
 use Rattle.vt_base.specs.Inside.OrderLaws.{IsTotalOrder-tuple_cmp}

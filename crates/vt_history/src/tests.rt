@@ -1,10 +1,11 @@
-// What a step does to a pattern's matches, over pairs of an object and a number.
+//! What a step does to a pattern's matches, over pairs of an object and a number.
 ghost use Rattle.vt_model.specs.Touched.{Rise};
 
-use crate::{PatternEvents, StepReport};
+use crate::PatternEvents;
 use std::alloc::Global;
+use std::fmt::Write;
 use std::test::Fail;
-use vt_base::{List, NoMemory, ObjId, PatternId, Rows, RuleId, Tuple, Value};
+use vt_base::{NoMemory, ObjId, PatternId, Rows, Tuple, Value};
 
 fn row(alloc: Global, object: u32, number: i64) -> Result<Tuple, NoMemory> {
     Tuple::from_slice(alloc, &[Value::Obj(ObjId(object)), Value::Int(number)])
@@ -18,13 +19,22 @@ fn rows(alloc: Global, pairs: &[(u32, i64)]) -> Result<Rows, NoMemory> {
     Rows::from_vec(alloc, found)
 }
 
-// Whether these are the rows, and no others.
-fn are(alloc: Global, found: &Rows, pairs: &[(u32, i64)]) -> Result<bool, NoMemory> {
-    let mut same = found.len() == pairs.len();
-    for (object, number) in pairs {
-        same = same && found.contains(&row(alloc, *object, *number)?);
+// Each row with the sign before it, as ` +4:40`.
+fn add_rows(text: &mut String, sign: &str, rows: &Rows) -> Result<(), Fail> {
+    let mut walk = rows.walk();
+    while let Some(row) = walk.next() {
+        if let [Value::Obj(object), Value::Int(number)] = row.as_slice() {
+            write!(text, " {sign}{}:{number}", object.0)?;
+        }
     }
-    Ok(same)
+    Ok(())
+}
+
+fn add_events(text: &mut String, events: &PatternEvents) -> Result<(), Fail> {
+    write!(text, "{}", events.pattern.0)?;
+    add_rows(text, "+", &events.added)?;
+    add_rows(text, "-", &events.removed)?;
+    add_rows(text, "~", &events.updated)
 }
 
 // The matches before are of the objects 1, 2, 3 and 5, those after of 2, 3, 4 and 5.
@@ -36,50 +46,55 @@ fn events(alloc: Global, touched: &[ObjId]) -> Result<PatternEvents, NoMemory>
     PatternEvents::between(alloc, PatternId(7), &before, &after, touched)
 }
 
+// What happened, as `7 +4:40 -1:10 ~3:30`.
+fn told(alloc: Global, touched: &[ObjId]) -> Result<String, Fail>
+    requires rise { Rise touched.now }
+{
+    let mut text = String::new(alloc);
+    add_events(&mut text, &events(alloc, touched)?)?;
+    Ok(text)
+}
+
+// ---- the objects that have other values
+
+fn none() -> [ObjId; 0]
+    ensures { Rise result }
+{
+    []
+}
+
+// One that went, two that stay, one that came and one that is in no match.
+fn of_each_kind() -> [ObjId; 5]
+    ensures { Rise result }
+{
+    [ObjId(1), ObjId(3), ObjId(4), ObjId(5), ObjId(9)]
+}
+
+// Their numbers stand in matches as plain numbers.
+fn named_by_none() -> [ObjId; 2]
+    ensures { Rise result }
+{
+    [ObjId(20), ObjId(30)]
+}
+
 #[test]
-#[tactic(auto, unfolding(std::specs::List::Sorted::IsStrictlySortedBy))]
 fn a_match_that_came_was_created_and_one_that_went_was_deleted(
     rt: HostRuntime,
 ) -> Result<(), Fail> {
-    let alloc = rt.alloc();
-    let found = events(alloc, &[])?;
-    assert!(rt; found.pattern == PatternId(7));
-    assert!(rt; are(alloc, &found.added, &[(4, 40)])?);
-    assert!(rt; are(alloc, &found.removed, &[(1, 10)])?);
-    assert!(rt; are(alloc, &found.updated, &[])?);
+    assert!(rt; told(rt.alloc(), &none())?.as_str() == "7 +4:40 -1:10");
     Ok(())
 }
 
 #[test]
-#[tactic(auto, unfolding(std::specs::List::Sorted::IsStrictlySortedBy))]
 fn a_match_that_stays_was_updated_where_its_object_was_touched(
     rt: HostRuntime,
 ) -> Result<(), Fail> {
-    let alloc = rt.alloc();
-    let found = events(alloc, &[ObjId(1), ObjId(3), ObjId(4), ObjId(5), ObjId(9)])?;
-    assert!(rt; are(alloc, &found.added, &[(4, 40)])?);
-    assert!(rt; are(alloc, &found.removed, &[(1, 10)])?);
-    assert!(rt; are(alloc, &found.updated, &[(3, 30), (5, 50)])?);
+    assert!(rt; told(rt.alloc(), &of_each_kind())?.as_str() == "7 +4:40 -1:10 ~3:30 ~5:50");
     Ok(())
 }
 
 #[test]
-#[tactic(auto, unfolding(std::specs::List::Sorted::IsStrictlySortedBy))]
-fn a_report_tells_the_step_and_what_fired(rt: HostRuntime) -> Result<(), Fail> {
-    let alloc = rt.alloc();
-    let mut list = List::new(alloc);
-    list.add(events(alloc, &[ObjId(2)])?)?;
-    let report = StepReport {
-        step: 3,
-        events: list,
-        touched: List::new(alloc),
-        fired: Some((RuleId(1), row(alloc, 2, 20)?)),
-    };
-    assert!(rt; report.step == 3);
-    assert!(rt; report.touched.is_empty());
-    let [found] = report.events.as_slice() else {
-        return Err(Fail::new("no events"));
-    };
-    assert!(rt; are(alloc, &found.updated, &[(2, 20)])?);
+fn a_number_is_no_object(rt: HostRuntime) -> Result<(), Fail> {
+    assert!(rt; told(rt.alloc(), &named_by_none())?.as_str() == "7 +4:40 -1:10");
     Ok(())
 }

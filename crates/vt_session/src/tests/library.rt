@@ -1,25 +1,27 @@
 // An empty library with its session, and the changes that lines ask for.
-ghost use Rattle.std.specs.Prelude.{◌≡◌, ◌<◌, ◌≤◌, IfOk, length};
-ghost use Rattle.vt_base.specs.Base.{Counts};
+ghost use Rattle.std.specs.Prelude.{◌≡◌, ◌≤◌, IfOk, length};
 ghost use Rattle.vt_delta.specs.Deltas.{IsNet};
 ghost use Rattle.vt_model.specs.Base.{base_of, counts_of};
 ghost use Rattle.vt_model.specs.Metamodel.{Metamodel};
 ghost use Rattle.vt_model.specs.Model.{empty_model};
-ghost use Rattle.vt_query.specs.Narrow.{IsNarrow, IsNarrowPattern};
+ghost use Rattle.vt_query.specs.Narrow.{IsNarrow};
 
 use crate::Session;
 use std::alloc::Global;
 use std::sync::ledger::Ledger;
 use std::test::Fail;
-use vt_base::{ClassId, List, NoMemory, Steps, Text};
+use vt_base::{Steps, Text};
 use vt_delta::BaseDelta;
 use vt_meta::read_meta;
 use vt_model::{Change, Given, Metamodel};
-use vt_query::{Body, Constraint, Param, Pattern, Program, Term, Ty};
+use vt_query::Program;
 use vt_store::Store;
+use vt_vql::read_queries;
 
 const LIBRARY: &str = r#"{"format":1,"enums":[],"classes":[
 {"name":"Shelf"},{"name":"Book","attributes":[{"name":"pages","kind":"int"}]}]}"#;
+
+const QUERIES: &str = "pattern book(b) { Book(b); } private pattern shelf(s) { Shelf(s); }";
 
 // The change that words ask for: `create x Book`, `set x pages 3` or `delete x`.
 pub(super) fn change(alloc: Global, line: &str) -> Result<Change, Fail> {
@@ -42,42 +44,18 @@ pub(super) fn change(alloc: Global, line: &str) -> Result<Change, Fail> {
     })
 }
 
-// The objects of a class.
-fn pattern(alloc: Global, name: &str, shown: bool, class: ClassId) -> Result<Pattern, NoMemory>
-    ensures { IfOk result (λ p. (counts : Counts) → class.0 < counts.classes → IsNarrowPattern counts p) }
+fn program(alloc: Global, meta: &Metamodel, bytes: &[u8]) -> Result<Program, Fail>
+    ensures narrow { IfOk result (λ p. IsNarrow (counts_of meta.now) p) }
+    ensures numbered { IfOk result (λ p. length p.patterns ≤ 65536) }
 {
-    let mut params = List::new(alloc);
-    params.add(Param {
-        name: Text::new(alloc, "object")?,
-        ty: None,
-    })?;
-    let mut constraints = List::new(alloc);
-    constraints.add(Constraint::Is {
-        ty: Ty::Class(class),
-        term: Term::Var(0),
-    })?;
-    let mut bodies = List::new(alloc);
-    bodies.add(Body {
-        vars: 1,
-        constraints,
-    })?;
-    Ok(Pattern {
-        name: Text::new(alloc, name)?,
-        shown,
-        params,
-        bodies,
-    })
-}
-
-// Books, and shelves as a private pattern.
-fn program(alloc: Global) -> Result<Program, NoMemory>
-    ensures narrow { IfOk result (λ p. (counts : Counts) → 1 < counts.classes → IsNarrow counts p) }
-    ensures two { IfOk result (λ p. length p.patterns ≡ 2) }
-{
-    let mut patterns = List::new(alloc);
-    patterns.add(pattern(alloc, "book", true, ClassId(1))?)?;
-    patterns.add(pattern(alloc, "shelf", false, ClassId(0))?)?;
-    Ok(Program { patterns })
+    if bytes.len() >= 1_000_000 {
+        return Err(Fail::new("too long"));
+    }
+    let program = read_queries(alloc, meta, bytes)?;
+    if program.patterns.len() > 65536 {
+        return Err(Fail::new("too many patterns"));
+    }
+    Ok(program)
 }
 
 // What came in with nothing.
@@ -90,16 +68,20 @@ fn nothing(alloc: Global, meta: &Metamodel) -> BaseDelta
     BaseDelta::none(alloc, classes, attributes, references)
 }
 
+fn session<L: Ledger>(
+    alloc: Global,
+    meta: &Metamodel,
+    steps: &mut Steps<L>,
+) -> Result<Session, Fail> {
+    let program = program(alloc, meta, QUERIES.as_bytes())?;
+    let store = Store::new(alloc, meta)?;
+    Ok(Session::start(alloc, store, nothing(alloc, meta), program, steps)?)
+}
+
 pub(super) fn empty_library<L: Ledger>(
     alloc: Global,
     steps: &mut Steps<L>,
 ) -> Result<Session, Fail> {
     let meta = read_meta(alloc, LIBRARY.as_bytes())?;
-    if meta.class_count() < 2 {
-        return Err(Fail::new("two classes"));
-    }
-    let program = program(alloc)?;
-    let store = Store::new(alloc, &meta)?;
-    let loaded = nothing(alloc, &meta);
-    Ok(Session::start(alloc, store, loaded, program, steps)?)
+    session(alloc, &meta, steps)
 }

@@ -1,4 +1,4 @@
-use Rattle.std.proofs.Common.{◌≡◌, sym, ap, ◌∙◌}
+use Rattle.std.proofs.Common.{sym, ap, ◌∙◌}
 use Rattle.vt_history.specs.Inside.Touching.{is_one}
 use Rattle.vt_history.proofs.TouchingLemmas.{is_ok-has}
 use Rattle.vt_history.proofs.events.is_one.Goals as goal
