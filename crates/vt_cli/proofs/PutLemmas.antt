@@ -23,7 +23,7 @@ take_over (b ∷ bs) cs n = ap (λ m. take m (b ∷ (bs ++ cs))) one_more ∙ ap
     one_more : suc (length bs) + n ≡ suc (length bs + n)
     one_more = omega arith
 
-none : List ℕ
+abbrev none : List ℕ
 none = []
 
 take_none : (n : ℕ) → take n none ≡ none

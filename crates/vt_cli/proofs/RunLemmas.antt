@@ -1,6 +1,6 @@
 -- Commands that are answered one after the other, and what was put of their replies.
 use Rattle.std.proofs.Common.{◌≡◌, ℕ, suc, ◌+◌, ◌≤◌, ◌<◌, List, [], ◌∷◌, ◌++◌, length, Option, Some, None, Result, Ok, Err, refl, sym, ap, subst, ◌∙◌, arith, append_assoc, append-nil}
-use Rattle.std.specs.Prelude.{IfOk}
+use Rattle.std.specs.Prelude.{IfOk, codes}
 use Rattle.std.specs.Io.KnownBytes.{Appends}
 use Rattle.std.proofs.KnownBytes.{Appends-nil, Appends-trans}
 use Rattle.vt_base.specs.declared.value.Value.{Value}
@@ -46,9 +46,9 @@ one_step on client (Err denial) state after text reply =
     subst (λ (s : State). length s.steps ≤ length state.steps + 1) (sym reply.0) (denied_steps denial client state)
 
 replied_steps : (on : Ground) (l : Line) (state after : State) (text : List ℕ) → Replied on l state after text → length after.steps ≤ length state.steps + 1
-replied_steps on (line.Begin client) state after text reply = same_steps _ client (begun client state.buffers) state after text reply
-replied_steps on (line.Change client change) state after text reply = same_steps _ client (changed client change state.buffers) state after text reply
-replied_steps on (line.Abort client) state after text reply = same_steps _ client (aborted client state.buffers) state after text reply
+replied_steps on (line.Begin client) state after text reply = same_steps (codes "begin") client (begun client state.buffers) state after text reply
+replied_steps on (line.Change client change) state after text reply = same_steps (codes "change") client (changed client change state.buffers) state after text reply
+replied_steps on (line.Abort client) state after text reply = same_steps (codes "abort") client (aborted client state.buffers) state after text reply
 replied_steps on (line.Commit client) state after text reply = one_step on client (committed on.meta client state) state after text reply
 replied_steps on (line.Matches pattern) state after text reply = subst (λ (s : State). length s.steps ≤ length state.steps + 1) (sym reply.0) (omega arith)
 replied_steps on line.Dump state after text reply = subst (λ (s : State). length s.steps ≤ length state.steps + 1) (sym reply.0) (omega arith)

@@ -10,7 +10,7 @@ pub returns-clause-reply : goal.returns-clause-reply
 returns-clause-reply c = λ state at.
     let client = c.args.client.now in
     let edit = c.args.change.now in
-    IfOk-map c.answered.result (Tells c.change.result (codes "change") client) _
-    (λ text tells. buffers_replied c.args.session.now c.change.new.self c.change.ensures.of (changed client edit state.buffers) c.change.result (codes "change") client text state at
+    IfOk-map c.answered.result (Tells c.change-answer.result (codes "change") client) _
+    (λ text tells. buffers_replied c.args.session.now c.change-answer.new.self c.change-answer.ensures.of (changed client edit state.buffers) c.change-answer.result (codes "change") client text state at
     (λ made is. held-changed client edit state.buffers made c.gives_storable.ensures at.held is)
-    (c.change.ensures.done state at.stands) (c.change.ensures.refused state at.stands) c.change.ensures.unchanged tells) c.answered.ensures
+    (c.change-answer.ensures.done state at.stands) (c.change-answer.ensures.refused state at.stands) c.change-answer.ensures.unchanged tells) c.answered.ensures

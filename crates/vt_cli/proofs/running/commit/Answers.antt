@@ -9,14 +9,14 @@ use Rattle.vt_cli.proofs.ReplyLemmas.{IfOk-map, step_replied, refusal_replied}
 use Rattle.vt_cli.proofs.running.commit.Goals as goal
 
 -- what the events name has a name
-pub step-requires-in-Ok : goal.step-requires-in-Ok
-step-requires-in-Ok g c =
+pub step-requires : goal.step-requires
+step-requires g c =
     let at = c.requires.at in
     step_in_store c.narrow_rows_are_named.ensures c.transaction_keeps_names.ensures c.args.session.now c.commit.new.self c.commit.ensures.of c.args.client.now c.in-Ok.report at.0 at.1
     (c.in-Ok.ensures.done at.0 at.1.stands)
     (subst IsSound c.store.ensures.meta c.meta.ensures.sound)
     (IsValid-moved _ _ _ _ c.store.ensures.meta c.store.ensures.model c.meta.ensures.valid)
-    (IsValid-moved _ _ _ _ c.store-store.ensures.meta c.store-store.ensures.model c.meta-2.ensures.valid)
+    (IsValid-moved _ _ _ _ c.store-store.ensures.meta c.store-store.ensures.model c.meta-in-Ok.ensures.valid)
     c.store-store.result.now.meta c.store-store.result.now.model c.store-store.ensures.meta c.store-store.ensures.model
 
 -- a step, which the report tells
