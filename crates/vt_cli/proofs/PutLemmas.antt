@@ -1,6 +1,6 @@
 -- Texts that are put one after the other, and the ending of what was put.
 use Rattle.std.proofs.Common.{◌≡◌, ℕ, zero, suc, ◌+◌, ◌≤◌, min, List, [], ◌∷◌, ◌++◌, length, take, Option, Some, None, Result, Ok, Err, refl, sym, ap, subst, ◌∙◌, arith, inl, inr}
-use Rattle.std.specs.Prelude.{OnOk, OnErr}
+use Rattle.std.specs.Prelude.{IsErr, OnOk, OnErr}
 use Rattle.std.specs.Io.KnownBytes.{Appends}
 use Rattle.std.proofs.KnownBytes.{Appends-nil, Appends-trans}
 use Rattle.vt_outside.specs.Faults.{Rose, raised, CountsPut}
@@ -10,6 +10,9 @@ use Rattle.vt_outside.specs.declared.sink.PutFail.TheVariants as put
 use Rattle.vt_cli.specs.Inside.Prepared.{Delivers}
 use Rattle.vt_cli.specs.Inside.Begun.{IsPut, ended}
 use Rattle.vt_cli.specs.declared.ending.Outcome.{Outcome}
+
+abbrev whole : Unit {0} → Result (Unit {0}) PutFail
+whole done = Ok done
 
 -- ---- fronts of two texts
 
@@ -65,6 +68,16 @@ front_none a cs = record { count = 0; grown = Appends-nil a }
 -- a text whole, and nothing of what comes after
 pub front_only : (a b : Option (List ℕ)) (bs cs : List ℕ) → Appends a b bs → AppendsPrefix a b (bs ++ cs)
 front_only a b bs cs whole = front_after a b b bs cs whole (front_none b cs)
+
+-- where a text can't be put whole, a front of it was
+pub cut_put : (Is : List ℕ → Type 0) (result : Result (Unit {0}) PutFail) (old new : Option (List ℕ)) → IsErr result
+    → (text : List ℕ) × Is text × AppendsPrefix old new text → (text : List ℕ) × Is text × IsPut result old new text
+cut_put Is (Ok done) old new err cut = absurd (let none : ⊥ = cc in none)
+cut_put Is (Err why) old new err cut = cut
+
+-- a piece that was put counts no failure
+pub calm_put : (done : Unit {0}) (before now : ℕ) → CountsPut before now (whole done) → now ≡ before
+calm_put done before now counts = counts.same_count (λ failed. let none : ⊥ = cc in none)
 
 -- ---- the ending
 

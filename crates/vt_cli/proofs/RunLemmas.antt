@@ -1,6 +1,8 @@
 -- Commands that are answered one after the other, and what was put of their replies.
 use Rattle.std.proofs.Common.{◌≡◌, ℕ, suc, ◌+◌, ◌≤◌, ◌<◌, List, [], ◌∷◌, ◌++◌, length, Option, Some, None, Result, Ok, Err, refl, sym, ap, subst, ◌∙◌, arith, append_assoc, append-nil}
-use Rattle.std.specs.Prelude.{IfOk, codes}
+use Rattle.std.specs.Prelude.{codes, drop}
+use Rattle.std.specs.List.{slice_index_or}
+use Rattle.std.proofs.lemmas.List.{at_drop_more}
 use Rattle.std.specs.Io.KnownBytes.{Appends}
 use Rattle.std.proofs.KnownBytes.{Appends-nil, Appends-trans}
 use Rattle.vt_base.specs.declared.value.Value.{Value}
@@ -67,6 +69,12 @@ IsOfOne-then a b c first second = record { meta = second.meta ∙ first.meta; pr
 
 ground-same : (a b : Kept) → IsOfOne a b → ground_of b ≡ ground_of a
 ground-same a b one i = record { meta = one.meta i; program = one.program i }
+
+-- ---- the commands that are left
+
+-- the command at a place, and those behind it
+pub split_at : (lines : List Line) (i : ℕ) (l : Line) → i < length lines → l ≡ slice_index_or lines i l → drop i lines ≡ l ∷ drop (i + 1) lines
+split_at lines i l within is = at_drop_more (λ (ls : List Line). ls) lines i l within ∙ ap (λ x. x ∷ drop (i + 1) lines) (sym is)
 
 -- ---- so far
 

@@ -24,7 +24,7 @@ pub(crate) fn told(alloc: Global, word: &str, name: &Text, what: &str) -> Result
 
 // A refused transaction, with the place of the change that is refused.
 fn stopped(alloc: Global, at: u32, why: Refusal) -> Result<String, NoMemory>
-    ensures { IfOk result (λ what. what.bytes ≡ denial_text (refused (record { at = at; why = why }))) }
+    ensures { IfOk result (λ what. what.bytes.items ≡ denial_text (refused (record { at = at; why = why }))) }
 {
     let name = refusals::name(why);
     Ok(format!(in alloc; "refused at {at} {name}")?)
