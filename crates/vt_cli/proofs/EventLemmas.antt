@@ -43,6 +43,10 @@ or_right : (a b : Bool) → b ≡ true → (a || b) ≡ true
 or_right true b e = refl
 or_right false b e = e
 
+or_grouped : (a b c : Bool) → ((a || b) || c) ≡ (a || (b || c))
+or_grouped true b c = refl
+or_grouped false b c = refl
+
 pub not_false : (a : Bool) → a ≡ false → not a ≡ true
 not_false true e = cc
 not_false false e = refl
@@ -78,7 +82,7 @@ has-filter p rows row =
 -- ---- the set of what happened
 
 -- a tuple of the set stands in what happened
-has-event_rows : (e : PatternEvents) (row : List Value) → has_row (event_rows e) row ≡ has_row (happened e) row
+pub has-event_rows : (e : PatternEvents) (row : List Value) → has_row (event_rows e) row ≡ has_row (happened e) row
 has-event_rows e row = has-inserted (happened e) [] row ∙ or-false (has_row (happened e) row)
 
 Ascends-event_rows : (e : PatternEvents) → Ascends (event_rows e)
@@ -117,8 +121,9 @@ module _ (before after : Model) (old new : List (List Value)) (e : PatternEvents
 
   has-happened : (row : List Value) → has_row (happened e) row ≡ (has_row e.added.items row || (has_row e.removed.items row || has_row e.updated.items row))
   has-happened row =
-      list_any-append (eq_by_cmp tuple_cmp row) e.added.items (e.removed.items ++ e.updated.items)
-      ∙ ap (λ b. has_row e.added.items row || b) (list_any-append (eq_by_cmp tuple_cmp row) e.removed.items e.updated.items)
+      list_any-append (eq_by_cmp tuple_cmp row) (e.added.items ++ e.removed.items) e.updated.items
+      ∙ ap (λ b. b || has_row e.updated.items row) (list_any-append (eq_by_cmp tuple_cmp row) e.added.items e.removed.items)
+      ∙ or_grouped (has_row e.added.items row) (has_row e.removed.items row) (has_row e.updated.items row)
 
   happened-HasEvent : (row : List Value) → has_row (happened e) row ≡ true → HasEvent before after old new row
   happened-HasEvent row h =

@@ -1,6 +1,7 @@
 -- What a session asks of a program and of what is new in a model.
 use Rattle.std.proofs.Common.{◌≡◌, ℕ, suc, ◌≤◌, length, Bool, true, false, not, ◌&&◌, cond, List, [], ◌∷◌, Option, Some, None, option_map, refl, sym, ap, subst, ◌∙◌, arith}
 use Rattle.std.specs.Prelude.{nat_le, filter, slice_get, map, if◌then◌else◌}
+use Rattle.std.proofs.lemmas.Bool.Decides.{nat_tests}
 use Rattle.vt_facts.specs.Names.{is_distinct}
 use Rattle.vt_facts.specs.Parts.{◌>>=◌}
 use Rattle.vt_base.specs.Base.{BaseRows}
@@ -24,18 +25,19 @@ use Rattle.vt_vql.specs.declared.tree.FileTree.{FileTree}
 some_same : {X : Type 0} (x y : X) → Some x ≡ Some y → x ≡ y
 some_same x y e = cc
 
-module _ {A B : Type 0} (f : A → Option B) where
-  length-all_of : (xs : List A) (ys : List B) → all_of f xs ≡ Some ys → length ys ≡ length xs
-  length-all_of [] ys e = ap length (sym (some_same [] ys e))
-  length-all_of (x ∷ xs) ys e = first (f x) e
-    where
-      rest : (y : B) (found : Option (List B)) → all_of f xs ≡ found → (found >>= λ zs. Some (y ∷ zs)) ≡ Some ys → length ys ≡ suc (length xs)
-      rest y None is e = absurd (let none : ⊥ = cc in none)
-      rest y (Some zs) is e = ap length (sym (some_same (y ∷ zs) ys e)) ∙ ap suc (length-all_of xs zs is)
+module _ {B : Type 0} where
+  joined : (ys : List B) (n : ℕ) (y : B) (found : Option (List B)) → ((zs : List B) → found ≡ Some zs → length zs ≡ n) → (found >>= λ zs. Some (y ∷ zs)) ≡ Some ys → length ys ≡ suc n
+  joined ys n y None each e = absurd (let none : ⊥ = cc in none)
+  joined ys n y (Some zs) each e = ap length (sym (some_same (y ∷ zs) ys e)) ∙ ap suc (each zs refl)
 
-      first : (found : Option B) → (found >>= λ y. all_of f xs >>= λ zs. Some (y ∷ zs)) ≡ Some ys → length ys ≡ suc (length xs)
-      first None e = absurd (let none : ⊥ = cc in none)
-      first (Some y) e = rest y (all_of f xs) refl e
+  with_first : (ys : List B) (n : ℕ) (others : Option (List B)) (found : Option B) → ((zs : List B) → others ≡ Some zs → length zs ≡ n) → (found >>= λ y. others >>= λ zs. Some (y ∷ zs)) ≡ Some ys → length ys ≡ suc n
+  with_first ys n others None each e = absurd (let none : ⊥ = cc in none)
+  with_first ys n others (Some y) each e = joined ys n y others each e
+
+module _ {A B : Type 0} where
+  length-all_of : (f : A → Option B) (xs : List A) (ys : List B) → all_of f xs ≡ Some ys → length ys ≡ length xs
+  length-all_of f [] ys e = ap length (sym (some_same [] ys e))
+  length-all_of f (x ∷ xs) ys e = with_first ys (length xs) (all_of f xs) (f x) (λ zs is. length-all_of f xs zs is) e
 
 few_of : (meta : Metamodel) (tree : FileTree) (program : Program) → narrow_program meta tree ≡ Some program → length program.patterns ≤ 512
 unfolding narrow_program

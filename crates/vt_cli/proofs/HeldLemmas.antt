@@ -32,8 +32,8 @@ all-map P f keeps (x ∷ xs) all = (keeps x all.0, all-map P f keeps xs all.1)
 abbrev IsHeld : Buffer → Type 0
 IsHeld b = AllByRecursion GivesStorable b.changes
 
-pub held-without : (client : List ℕ) (open : List Buffer) → AreHeld open → AreHeld (without_buffer client open)
-held-without client open held = all-filter IsHeld (λ b. not (is_name b.client client)) open held
+pub held-without : (client : List ℕ) (buffers : List Buffer) → AreHeld buffers → AreHeld (without_buffer client buffers)
+held-without client buffers held = all-filter IsHeld (λ b. not (is_name b.client client)) buffers held
 
 abbrev Made : Type 0
 Made = Result (List Buffer) Denial
@@ -52,11 +52,11 @@ begun_is true b xs ys e = absurd (let none : ⊥ = cc in none)
 begun_is false true xs ys e = absurd (let none : ⊥ = cc in none)
 begun_is false false xs ys e = same_buffers xs ys e
 
-pub held-begun : (client : List ℕ) (open after : List Buffer) → AreHeld open → begun client open ≡ Ok after → AreHeld after
-held-begun client open after held e =
+pub held-begun : (client : List ℕ) (buffers after : List Buffer) → AreHeld buffers → begun client buffers ≡ Ok after → AreHeld after
+held-begun client buffers after held e =
     let fresh : Buffer = record { client = client; changes = [] } in
-    subst AreHeld (begun_is (is_some (buffer_of client open)) (nat_le 64 (length open)) (open ++ fresh ∷ []) after e)
-    (all_on IsHeld open (fresh ∷ []) held (tt, tt))
+    subst AreHeld (begun_is (is_some (buffer_of client buffers)) (nat_le 64 (length buffers)) (buffers ++ fresh ∷ []) after e)
+    (all_on IsHeld buffers (fresh ∷ []) held (tt, tt))
 
 held-with_its_change : (client : List ℕ) (change : Change) → GivesStorable change → (b : Buffer) → IsHeld b → IsHeld (with_its_change client change b)
 held-with_its_change client change storable b h = elim (is_name b.client client) as (λ t. IsHeld (if t then record b { changes = b.changes ++ change ∷ [] } else b)) [
@@ -64,37 +64,37 @@ held-with_its_change client change storable b h = elim (is_name b.client client)
   | false ↦ h
 ]
 
-held-with_change : (client : List ℕ) (change : Change) (open : List Buffer) → GivesStorable change → AreHeld open → AreHeld (with_change client change open)
-held-with_change client change open storable held =
-    all-map IsHeld (with_its_change client change) (held-with_its_change client change storable) open held
+held-with_change : (client : List ℕ) (change : Change) (buffers : List Buffer) → GivesStorable change → AreHeld buffers → AreHeld (with_change client change buffers)
+held-with_change client change buffers storable held =
+    all-map IsHeld (with_its_change client change) (held-with_its_change client change storable) buffers held
 
-changed_is : (client : List ℕ) (change : Change) (open after : List Buffer) (found : Option Buffer) → changed_in client change open found ≡ Ok after → with_change client change open ≡ after
-changed_is client change open after None e = absurd (let none : ⊥ = cc in none)
-changed_is client change open after (Some b) e = full (length b.changes == 65536) e
+changed_is : (client : List ℕ) (change : Change) (buffers after : List Buffer) (found : Option Buffer) → changed_in client change buffers found ≡ Ok after → with_change client change buffers ≡ after
+changed_is client change buffers after None e = absurd (let none : ⊥ = cc in none)
+changed_is client change buffers after (Some b) e = full (length b.changes == 65536) e
   where
-    full : (t : Bool) → (if t then not_made too_many_changes else made (with_change client change open)) ≡ made after → with_change client change open ≡ after
+    full : (t : Bool) → (if t then not_made too_many_changes else made (with_change client change buffers)) ≡ made after → with_change client change buffers ≡ after
     full true e = absurd (let none : ⊥ = cc in none)
-    full false e = same_buffers (with_change client change open) after e
+    full false e = same_buffers (with_change client change buffers) after e
 
-pub held-changed : (client : List ℕ) (change : Change) (open after : List Buffer) → GivesStorable change → AreHeld open → changed client change open ≡ Ok after → AreHeld after
-held-changed client change open after storable held e =
-    subst AreHeld (changed_is client change open after (buffer_of client open) e) (held-with_change client change open storable held)
+pub held-changed : (client : List ℕ) (change : Change) (buffers after : List Buffer) → GivesStorable change → AreHeld buffers → changed client change buffers ≡ Ok after → AreHeld after
+held-changed client change buffers after storable held e =
+    subst AreHeld (changed_is client change buffers after (buffer_of client buffers) e) (held-with_change client change buffers storable held)
 
 aborted_is : (a : Bool) (xs ys : List Buffer) → (if a then made xs else not_made not_open) ≡ made ys → xs ≡ ys
 aborted_is true xs ys e = same_buffers xs ys e
 aborted_is false xs ys e = absurd (let none : ⊥ = cc in none)
 
-pub held-aborted : (client : List ℕ) (open after : List Buffer) → AreHeld open → aborted client open ≡ Ok after → AreHeld after
-held-aborted client open after held e =
-    subst AreHeld (aborted_is (is_some (buffer_of client open)) (without_buffer client open) after e) (held-without client open held)
+pub held-aborted : (client : List ℕ) (buffers after : List Buffer) → AreHeld buffers → aborted client buffers ≡ Ok after → AreHeld after
+held-aborted client buffers after held e =
+    subst AreHeld (aborted_is (is_some (buffer_of client buffers)) (without_buffer client buffers) after e) (held-without client buffers held)
 
 -- a buffer that is found is one of them
-pub held-found : (client : List ℕ) (open : List Buffer) (b : Buffer) → AreHeld open → buffer_of client open ≡ Some b → AllByRecursion GivesStorable b.changes
+pub held-found : (client : List ℕ) (buffers : List Buffer) (b : Buffer) → AreHeld buffers → buffer_of client buffers ≡ Some b → AllByRecursion GivesStorable b.changes
 held-found client [] b held e = absurd (let none : ⊥ = cc in none)
-held-found client (x ∷ open) b held e =
-    elim (is_name x.client client) as (λ t. cond t (Some x) (find (λ y. is_name y.client client) open) ≡ Some b → IsHeld b) [
+held-found client (x ∷ buffers) b held e =
+    elim (is_name x.client client) as (λ t. cond t (Some x) (find (λ y. is_name y.client client) buffers) ≡ Some b → IsHeld b) [
       | true ↦ λ same. subst IsHeld (some_same x b same) held.0
-      | false ↦ λ rest. held-found client open b held.1 rest
+      | false ↦ λ rest. held-found client buffers b held.1 rest
     ] e
   where
     some_same : (x y : Buffer) → Some x ≡ Some y → x ≡ y

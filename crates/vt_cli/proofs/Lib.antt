@@ -9,6 +9,8 @@ pub mod StepNameLemmas
 pub mod ReachLemmas
 pub mod PutLemmas
 pub mod FewLemmas
+pub mod BeginLemmas
+pub mod PlanLemmas
 pub mod HeldLemmas
 pub mod ReplyLemmas
 pub mod PrintableLemmas

@@ -31,7 +31,7 @@ module _ (on : Ground)
   AreOne reply = (after other : State) (text too : List ℕ) → reply after text → reply other too → (after ≡ other) × (text ≡ too)
 
   one_buffer : (word client : List ℕ) (due : Result (List Buffer) Denial) (state : State) → AreOne (BufferReply word client due state)
-  one_buffer word client (Ok open) state after other text too a b = (a.0 ∙ sym b.0, a.1 ∙ sym b.1)
+  one_buffer word client (Ok buffers) state after other text too a b = (a.0 ∙ sym b.0, a.1 ∙ sym b.1)
   one_buffer word client (Err denial) state after other text too a b = (a.0 ∙ sym b.0, a.1 ∙ sym b.1)
 
   one_step : (client : List ℕ) (g : Model) (state : State) → AreOne (StepReply on client g state)

@@ -35,6 +35,9 @@ use Rattle.vt_cli.proofs.HeldLemmas.{held-found}
 use Rattle.vt_cli.proofs.ReachLemmas.{IsTabled-at}
 use Rattle.vt_cli.proofs.ReplyLemmas.{each_of}
 
+pub IsValid-moved : (meta m : Metamodel) (g h : Model) → meta ≡ m → g ≡ h → IsValid meta g → IsValid m h
+IsValid-moved meta m g h meta_is g_is valid = subst (IsValid m) g_is (subst (λ x. IsValid x g) meta_is valid)
+
 -- the buffer that a commit made, and its transaction
 pub record IsMade (meta : Metamodel) (g after : Model) (found : Option Buffer) : Type 0 where
   pub buffer : Buffer
@@ -82,6 +85,14 @@ module _ (named : (meta : Metamodel) (g : Model) (counts : Counts) (program : Pr
       asked_named (enum_names kept.meta) (all_names kept.model) kept.program kept.tables name rows
       (named_among_all kept.meta kept.model kept.program kept.tables sound valid at.narrow stand) asked
 
+  -- the same of a store that keeps the model
+  pub matches_in_store : (meta : Metamodel) (g : Model) (kept : Kept) (state : State) (name : List ℕ) (rows : List (List Value))
+      → meta ≡ kept.meta → g ≡ kept.model → IsSound meta → IsValid meta g
+      → IsAt kept state → table_in kept.program kept.tables name ≡ Some rows → AllNamed (enum_names meta) (all_names g) rows
+  matches_in_store meta g kept state name rows meta_is g_is sound valid at asked =
+      subst (λ m. AllNamed (enum_names m) (all_names g) rows) (sym meta_is) (subst (λ h. AllNamed (enum_names kept.meta) (all_names h) rows) (sym g_is)
+      (matches_named kept state name rows (subst IsSound meta_is sound) (subst (IsValid kept.meta) g_is (subst (λ m. IsValid m g) meta_is valid)) at asked))
+
   -- ---- events
 
   module _ (keeps : (meta : Metamodel) (g after : Model) (changes : List Change)
@@ -119,3 +130,9 @@ module _ (named : (meta : Metamodel) (g : Model) (counts : Counts) (program : Pr
         olds_named news_named (each_of old new one client state report at commits) in
         subst (λ g. AllEventsNamed (enum_names new.meta) (all_names g) report.events) (sym same_model)
         (subst (λ meta. AllEventsNamed (enum_names meta) (all_names commits.model) report.events) (sym one.meta) all)
+
+    -- the same of a store that keeps the model
+    pub step_in_store : (meta : Metamodel) (g : Model) → meta ≡ new.meta → g ≡ new.model → AllEventsNamed (enum_names meta) (all_names g) report.events
+    step_in_store meta g meta_is g_is =
+        subst (λ m. AllEventsNamed (enum_names m) (all_names g) report.events) (sym meta_is)
+        (subst (λ h. AllEventsNamed (enum_names new.meta) (all_names h) report.events) (sym g_is) step_named)

@@ -16,12 +16,12 @@ use Rattle.vt_history.specs.declared.report.StepReport.{StepReport}
 use Rattle.vt_session.specs.declared.buffers.Buffer.{Buffer}
 use Rattle.vt_session.specs.Buffers.{Denial, already_open, too_many_open, not_open, too_many_changes, refused, buffer_of}
 use Rattle.vt_session.specs.Run.{State, committed, committed_from, refused_at, without, after_step}
-use Rattle.vt_session.specs.Session.{Kept, StandsFor, IsOfOne, IsFaultOf, IsDenied, HasBuffers, Commits}
+use Rattle.vt_session.specs.Session.{Kept, table_in, StandsFor, IsOfOne, IsFaultOf, IsDenied, HasBuffers, Commits}
 use Rattle.vt_session.specs.declared.fault.SessionFault.{SessionFault}
 use Rattle.vt_session.specs.declared.fault.SessionFault.TheVariants as fault
 use Rattle.vt_query.specs.declared.program.Pattern.{Pattern}
-use Rattle.vt_cli.specs.Replies.{Names, told, denial_text, AreEventTexts}
-use Rattle.vt_cli.specs.Running.{Ground, names_at, BufferReply, StepReply, CommitReply, after_denial}
+use Rattle.vt_cli.specs.Replies.{Names, told, denial_text, matches_text, AreEventTexts}
+use Rattle.vt_cli.specs.Running.{Ground, names_at, BufferReply, StepReply, CommitReply, MatchesReply, after_denial}
 use Rattle.vt_cli.specs.Inside.Marks.{all_marked}
 use Rattle.vt_cli.specs.Inside.Begun.{ground_of, AreHeld, IsAt, Denies, Tells}
 use Rattle.vt_cli.proofs.HeldLemmas.{held-without}
@@ -59,6 +59,29 @@ denied due fault.NotOpen word name text d says = record { denial = d.0; is = d.1
 denied due fault.TooManyChanges word name text d says = record { denial = d.0; is = d.1; of = d.2; says = says d.0 d.2 }
 denied due (fault.Refused at why) word name text d says = record { denial = d.0; is = d.1; of = d.2; says = says d.0 d.2 }
 denied due fault.NoMemory word name text d says = absurd says
+
+-- the text that tells a refused transaction
+pub says_refused : {E : Type 0} (r : Result (List ℕ) E) (at : ℕ) (why : Refusal) (word name what : List ℕ)
+    → what ≡ denial_text (refused (record { at = at; why = why })) → IfOk r (λ text. text ≡ told word name what)
+    → IfOk r (λ text. Denies (fault.Refused at why) word name text)
+says_refused r at why word name what is said =
+    IfOk-map r (λ text. text ≡ told word name what) (λ text. Denies (fault.Refused at why) word name text)
+    (λ text says denial of. says ∙ ap (told word name) (is ∙ ap denial_text (sym of))) said
+
+-- ---- matches
+
+pub matches_replied : (kept : Kept) (state : State) (name : List ℕ) (rows : List (List Value)) (meta : Metamodel) (g : Model) (text : List ℕ)
+    → meta ≡ kept.meta → g ≡ kept.model → IsAt kept state → table_in kept.program kept.tables name ≡ Some rows
+    → text ≡ matches_text (record { enums = enum_names meta; objects = all_names g }) name rows
+    → (after : State) × ((after ≡ state) × MatchesReply (names_at (ground_of kept) state) name (table_in kept.program (tables_after state.steps) name) text) × IsAt kept after
+matches_replied kept state name rows meta g text meta_is g_is at asked is =
+    let found : table_in kept.program (tables_after state.steps) name ≡ Some rows = ap (λ t. table_in kept.program t name) (sym at.stands.tables) ∙ asked in
+    let names : Metamodel → Model → Names = λ m h. record { enums = enum_names m; objects = all_names h } in (
+      state,
+      (refl, subst (λ r. MatchesReply (names_at (ground_of kept) state) name r text) (sym found)
+          (is ∙ ap (λ m. matches_text (names m g) name rows) meta_is ∙ ap (λ h. matches_text (names kept.meta h) name rows) (g_is ∙ at.stands.model))),
+      at,
+    )
 
 -- ---- a run that goes on
 

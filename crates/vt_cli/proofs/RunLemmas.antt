@@ -1,6 +1,8 @@
 -- Commands that are answered one after the other, and what was put of their replies.
 use Rattle.std.proofs.Common.{◌≡◌, ℕ, suc, ◌+◌, ◌≤◌, ◌<◌, List, [], ◌∷◌, ◌++◌, length, Option, Some, None, Result, Ok, Err, refl, sym, ap, subst, ◌∙◌, arith, append_assoc, append-nil}
-use Rattle.std.specs.Prelude.{IfOk}
+use Rattle.std.specs.Prelude.{codes, drop}
+use Rattle.std.specs.List.{slice_index_or}
+use Rattle.std.proofs.lemmas.List.{at_drop_more}
 use Rattle.std.specs.Io.KnownBytes.{Appends}
 use Rattle.std.proofs.KnownBytes.{Appends-nil, Appends-trans}
 use Rattle.vt_base.specs.declared.value.Value.{Value}
@@ -29,7 +31,7 @@ use Rattle.vt_cli.proofs.ReachLemmas.{IsTabled, IsTabled-at, some_answer}
 
 same_steps : (word client : List ℕ) (due : Result (List Buffer) Denial) (state after : State) (text : List ℕ) → BufferReply word client due state after text
     → length after.steps ≤ length state.steps + 1
-same_steps word client (Ok open) state after text reply = subst (λ (s : State). length s.steps ≤ length state.steps + 1) (sym reply.0) (omega arith)
+same_steps word client (Ok buffers) state after text reply = subst (λ (s : State). length s.steps ≤ length state.steps + 1) (sym reply.0) (omega arith)
 same_steps word client (Err denial) state after text reply = subst (λ (s : State). length s.steps ≤ length state.steps + 1) (sym reply.0) (omega arith)
 
 denied_steps : (denial : Denial) (client : List ℕ) (state : State) → length ((after_denial denial client state).steps) ≤ length state.steps + 1
@@ -46,9 +48,9 @@ one_step on client (Err denial) state after text reply =
     subst (λ (s : State). length s.steps ≤ length state.steps + 1) (sym reply.0) (denied_steps denial client state)
 
 replied_steps : (on : Ground) (l : Line) (state after : State) (text : List ℕ) → Replied on l state after text → length after.steps ≤ length state.steps + 1
-replied_steps on (line.Begin client) state after text reply = same_steps _ client (begun client state.buffers) state after text reply
-replied_steps on (line.Change client change) state after text reply = same_steps _ client (changed client change state.buffers) state after text reply
-replied_steps on (line.Abort client) state after text reply = same_steps _ client (aborted client state.buffers) state after text reply
+replied_steps on (line.Begin client) state after text reply = same_steps (codes "begin") client (begun client state.buffers) state after text reply
+replied_steps on (line.Change client change) state after text reply = same_steps (codes "change") client (changed client change state.buffers) state after text reply
+replied_steps on (line.Abort client) state after text reply = same_steps (codes "abort") client (aborted client state.buffers) state after text reply
 replied_steps on (line.Commit client) state after text reply = one_step on client (committed on.meta client state) state after text reply
 replied_steps on (line.Matches pattern) state after text reply = subst (λ (s : State). length s.steps ≤ length state.steps + 1) (sym reply.0) (omega arith)
 replied_steps on line.Dump state after text reply = subst (λ (s : State). length s.steps ≤ length state.steps + 1) (sym reply.0) (omega arith)
@@ -67,6 +69,12 @@ IsOfOne-then a b c first second = record { meta = second.meta ∙ first.meta; pr
 
 ground-same : (a b : Kept) → IsOfOne a b → ground_of b ≡ ground_of a
 ground-same a b one i = record { meta = one.meta i; program = one.program i }
+
+-- ---- the commands that are left
+
+-- the command at a place, and those behind it
+pub split_at : (lines : List Line) (i : ℕ) (l : Line) → i < length lines → l ≡ slice_index_or lines i l → drop i lines ≡ l ∷ drop (i + 1) lines
+split_at lines i l within is = at_drop_more (λ (ls : List Line). ls) lines i l within ∙ ap (λ x. x ∷ drop (i + 1) lines) (sym is)
 
 -- ---- so far
 

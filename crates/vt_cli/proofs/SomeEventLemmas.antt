@@ -6,6 +6,7 @@ use Rattle.std.specs.List.{list_any}
 use Rattle.std.specs.Bool.{Decides}
 use Rattle.std.specs.Ordering.{eq_by_cmp}
 use Rattle.std.proofs.lemmas.Bool.{and_parts, and_from}
+use Rattle.std.proofs.lemmas.Bool.Decides.{nat_tests}
 use Rattle.std.proofs.lemmas.List.Kept.{IsStrictlySortedBy-filter}
 use Rattle.vt_base.specs.Order.{value_cmp, tuple_cmp}
 use Rattle.vt_base.specs.Rows.{Ascends, has_row}
@@ -28,7 +29,7 @@ use Rattle.vt_cli.proofs.EventLemmas.{has-filter, not_false, false_not, Each, Ar
 -- ---- whether two objects have the same values
 
 abbrev same_value : AttributeValue → AttributeValue → Bool
-same_value t u = nat_eq t.object.0 u.object.0 && nat_eq t.attribute.0 u.attribute.0 && eq_by_cmp value_cmp t.value u.value
+same_value t u = nat_eq t.object.0 u.object.0 && (nat_eq t.attribute.0 u.attribute.0 && eq_by_cmp value_cmp t.value u.value)
 
 nat_eq-is : (m n : ℕ) → nat_eq m n ≡ true → m ≡ n
 nat_eq-is m n e = grind (arith, nat_tests)
@@ -67,6 +68,12 @@ same_values-is (t ∷ ts) (u ∷ us) e =
 same_values-self : (ts : List AttributeValue) → same_values ts ts ≡ true
 same_values-self [] = refl
 same_values-self (t ∷ ts) = and_from (same_value t t) (same_values ts ts) (same_value-self t) (same_values-self ts)
+
+-- ---- tables that ascend
+
+abbrev pub AllAscend : List (List (List Value)) → Type 0
+AllAscend [] = Unit {0}
+AllAscend (table ∷ tables) = Ascends table × AllAscend tables
 
 -- ---- whether an object of a tuple has other values
 
@@ -149,10 +156,6 @@ module _ (before after : Model) where
 
   -- ---- all patterns
 
-  abbrev pub AllAscend : List (List (List Value)) → Type 0
-  AllAscend [] = Unit {0}
-  AllAscend (table ∷ tables) = Ascends table × AllAscend tables
-
   some_each : (olds news : List (List (List Value))) → length olds ≡ length news → AllAscend olds → AllAscend news
       → (events : List PatternEvents) × (length events ≡ length news) × Each before after olds news events
   some_each [] [] count up too = ([], refl, tt)
@@ -160,7 +163,7 @@ module _ (before after : Model) where
   some_each (old ∷ olds) [] count up too = absurd (omega (arith, count))
   some_each (old ∷ olds) (new ∷ news) count up too =
       let rest = some_each olds news (omega (arith, count)) up.1 too.1 in
-      (events_of old new up.0 too.0 ∷ rest.0, ap suc rest.1, AreEvents-events_of old new up.0 too.0, rest.2)
+      (events_of old new up.0 too.0 ∷ rest.0, ap suc rest.1, (AreEvents-events_of old new up.0 too.0, rest.2))
 
   pub some_events : (names : Names) (patterns : List Pattern) (olds news : List (List (List Value)))
       → length olds ≡ length patterns → length news ≡ length patterns → AllAscend olds → AllAscend news

@@ -4,6 +4,7 @@ use Rattle.std.specs.Prelude.{All, Contains, ◌==◌, ◌&&◌, IsSome, slice_g
 use Rattle.std.specs.List.{AllByRecursion}
 use Rattle.std.specs.Option.{option_or}
 use Rattle.std.proofs.lemmas.Bool.{eq-eqb}
+use Rattle.std.proofs.lemmas.Bool.Decides.{nat_tests}
 use Rattle.std.proofs.lemmas.List.Elements.{All-contains, All-from_recursion, recursion_from_All}
 use Rattle.std.proofs.lemmas.List.Folds.{find-append}
 use Rattle.vt_facts.proofs.MemberLemmas.{Contains-head, Contains-behind, Contains-map, Contains-from_map, Contains-find, find-some, All-from_contains}
@@ -25,10 +26,10 @@ use Rattle.vt_query.specs.declared.program.Program.{Program}
 use Rattle.vt_history.specs.Events.{AreEvents}
 use Rattle.vt_history.specs.declared.report.PatternEvents.{PatternEvents}
 use Rattle.vt_session.specs.Session.{table_in}
-use Rattle.vt_cli.specs.Inside.Marks.{happened}
+use Rattle.vt_cli.specs.Inside.Marks.{happened, event_rows}
 use Rattle.vt_cli.specs.Inside.Printable.{AllNamed, AllTablesNamed, AllEventsNamed}
 use Rattle.vt_cli.proofs.NamedLemmas.{each_weaker}
-use Rattle.vt_cli.proofs.EventLemmas.{Each, has-contains, contains-has, happened_within}
+use Rattle.vt_cli.proofs.EventLemmas.{Each, has-contains, contains-has, has-event_rows, happened_within}
 
 -- ---- objects
 
@@ -111,6 +112,12 @@ module _ (enums : List EnumNames) (objects : List ObjectName) where
         (All-from_contains (AreNamed enums objects) (happened e) (λ row there. event_named old new e row a.0 b.0 (happened_within before after old new e each.0) there)),
     events_named before after olds news events a.1 b.1 each.1,
   )
+
+  -- what the set of what happened names
+  pub event_rows_named : (e : PatternEvents) (rows : List (List Value)) → rows ≡ event_rows e → AllNamed enums objects (happened e) → AllNamed enums objects rows
+  event_rows_named e rows is named = subst (AllNamed enums objects) (sym is)
+      (recursion_from_All (AreNamed enums objects) (event_rows e)
+      (All-from_contains (AreNamed enums objects) (event_rows e) (λ row there. row_named (happened e) row named (sym (has-event_rows e row) ∙ contains-has (event_rows e) row there))))
 
   -- ---- the table of a pattern that is asked for
 

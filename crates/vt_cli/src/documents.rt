@@ -63,7 +63,6 @@ pub(crate) fn load(
 }
 
 // The model of a metamodel, with what is new in it, or the outcome of its first fault.
-#[tactic(auto, using(crate::proofs::FewLemmas::net_from_empty))]
 fn new_model(
     alloc: Global,
     meta: &Metamodel,

@@ -22,7 +22,6 @@ fn add_rows(alloc: Global, rows: &Rows, out: &mut List<Tuple>) -> Result<(), NoM
 }
 
 // The tuples that something happened to, in one order.
-#[tactic(auto, using(crate::proofs::EventLemmas::event_rows_set))]
 fn event_rows(alloc: Global, events: &PatternEvents) -> Result<Rows, NoMemory>
     ensures { IfOk result (λ rows. rows.items ≡ event_rows events.now) }
 {

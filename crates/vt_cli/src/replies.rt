@@ -1,7 +1,8 @@
 // The texts of replies, but for those of a step.
 ghost use Rattle.std.specs.Prelude.{◌≡◌, ◌++◌, IfOk, codes, decimal, flat_map, length};
 ghost use Rattle.vt_cli.specs.Lists.{match_line};
-ghost use Rattle.vt_cli.specs.Replies.{told};
+ghost use Rattle.vt_session.specs.Buffers.{refused};
+ghost use Rattle.vt_cli.specs.Replies.{told, denial_text};
 ghost use Rattle.vt_cli.specs.Inside.Begun.{Denies, Tells};
 ghost use Rattle.vt_cli.specs.Inside.Printable.{AllNamed};
 
@@ -9,6 +10,7 @@ use crate::matches::write_rows;
 use crate::refusals;
 use std::alloc::Global;
 use vt_base::{List, Names, NoMemory, Rows, Text};
+use vt_model::Refusal;
 use vt_session::SessionFault;
 
 /// A command's word, the client or the pattern that it names, and what is told.
@@ -18,6 +20,14 @@ pub(crate) fn told(alloc: Global, word: &str, name: &Text, what: &str) -> Result
     let name = name.as_str();
     let line = format!(in alloc; "{word} {name}: {what}\n")?;
     Ok(List::from_vec(line.into_bytes()))
+}
+
+// A refused transaction, with the place of the change that is refused.
+fn stopped(alloc: Global, at: u32, why: Refusal) -> Result<String, NoMemory>
+    ensures { IfOk result (λ what. what.bytes.items ≡ denial_text (refused (record { at = at; why = why }))) }
+{
+    let name = refusals::name(why);
+    Ok(format!(in alloc; "refused at {at} {name}")?)
 }
 
 /// Why a command is refused. Want of memory has no reply.
@@ -35,8 +45,7 @@ pub(crate) fn refused(
         SessionFault::NotOpen => told(alloc, word, name, "refused NotOpen"),
         SessionFault::TooManyChanges => told(alloc, word, name, "refused TooManyChanges"),
         SessionFault::Refused { at, why } => {
-            let why = refusals::name(why);
-            let what = format!(in alloc; "refused at {at} {why}")?;
+            let what = stopped(alloc, at, why)?;
             told(alloc, word, name, what.as_str())
         }
         SessionFault::NoMemory => Err(NoMemory),

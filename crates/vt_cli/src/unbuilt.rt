@@ -1,5 +1,5 @@
 // Commands that aren't built yet.
-ghost use Rattle.std.specs.Prelude.{◌≡◌};
+ghost use Rattle.std.specs.Prelude.{◌≡◌, position};
 ghost use Rattle.vt_cli.specs.Unbuilt.{is_unbuilt, unbuilt};
 
 use vt_script::Line;
@@ -13,10 +13,18 @@ fn is_unbuilt(line: &Line) -> bool
     }
 }
 
+fn first_place(lines: &[Line]) -> Option<usize>
+    ensures { result ≡ position is_unbuilt lines.now }
+{
+    lines.iter().position(|line| is_unbuilt(line))
+}
+
 /// The number of the first command that isn't built, counted from 1.
 pub(crate) fn first_unbuilt(lines: &[Line]) -> Option<u64>
     ensures { result ≡ unbuilt lines.now }
 {
-    let place = lines.iter().position(|line| is_unbuilt(line))?;
-    Some(place as u64 + 1)
+    match first_place(lines) {
+        Some(place) => Some(place as u64 + 1),
+        None => None,
+    }
 }
