@@ -1,5 +1,5 @@
 -- At most one outcome is due.
-use Rattle.std.proofs.Common.{ℕ, ◌≡◌, ◌≢◌, ◌⊎◌, List, Option, Some, None, Result, Ok, Err, sym, ◌∙◌, ap, subst, inl, inr}
+use Rattle.std.proofs.Common.{ℕ, ◌≡◌, ◌≢◌, List, Option, Some, None, Result, Ok, Err, sym, ◌∙◌, ap, subst, inl, inr}
 use Rattle.vt_base.specs.Base.{Counts}
 use Rattle.vt_base.specs.declared.value.Value.{Value}
 use Rattle.vt_outside.specs.Shelf.{NamedFiles}

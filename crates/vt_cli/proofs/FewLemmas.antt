@@ -1,12 +1,10 @@
 -- What a session asks of a program and of what is new in a model.
-use Rattle.std.proofs.Common.{◌≡◌, ℕ, suc, ◌≤◌, length, Bool, true, false, not, ◌&&◌, cond, List, [], ◌∷◌, Option, Some, None, option_map, refl, sym, ap, subst, ◌∙◌, arith}
-use Rattle.std.specs.Prelude.{nat_le, filter, slice_get, map, if◌then◌else◌}
+use Rattle.std.proofs.Common.{◌≡◌, ℕ, suc, ◌≤◌, length, Bool, true, false, ◌&&◌, List, [], ◌∷◌, Option, Some, None, option_map, refl, sym, ap, subst, ◌∙◌, arith}
+use Rattle.std.specs.Prelude.{nat_le, map, if◌then◌else◌}
 use Rattle.std.proofs.lemmas.Bool.Decides.{nat_tests}
 use Rattle.vt_facts.specs.Names.{is_distinct}
 use Rattle.vt_facts.specs.Parts.{◌>>=◌}
-use Rattle.vt_base.specs.Base.{BaseRows}
-use Rattle.vt_delta.specs.Deltas.{IsNet, HasCounts, change_of, net, without}
-use Rattle.vt_base.specs.Rows.{has_row}
+use Rattle.vt_delta.specs.Deltas.{IsNet, change_of, net, without}
 use Rattle.vt_delta.specs.declared.delta.Delta.{Delta}
 use Rattle.vt_delta.specs.declared.delta.BaseDelta.{BaseDelta}
 use Rattle.vt_base.specs.declared.value.Value.{Value}

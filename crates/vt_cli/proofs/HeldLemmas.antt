@@ -1,5 +1,5 @@
 -- What the changes of open buffers give can be held, whatever is done to the buffers.
-use Rattle.std.proofs.Common.{◌≡◌, ℕ, List, [], ◌∷◌, ◌++◌, Bool, true, false, not, cond, Option, Some, None, Result, Ok, Err, refl, sym, ap, subst, ◌∙◌}
+use Rattle.std.proofs.Common.{◌≡◌, ℕ, List, [], ◌∷◌, ◌++◌, Bool, true, false, not, cond, Option, Some, None, Result, Ok, Err, subst}
 use Rattle.std.specs.Prelude.{filter, map, find, is_some, nat_le, ◌==◌, length, if◌then◌else◌}
 use Rattle.std.specs.List.{AllByRecursion}
 use Rattle.vt_facts.specs.Names.{is_name}

@@ -1,5 +1,5 @@
 -- At most one text is due to a run.
-use Rattle.std.proofs.Common.{◌≡◌, ℕ, List, [], ◌∷◌, ◌++◌, length, Option, Some, None, Result, Ok, Err, refl, sym, ap, subst, ◌∙◌}
+use Rattle.std.proofs.Common.{◌≡◌, ℕ, List, [], ◌∷◌, ◌++◌, length, Option, Some, None, Result, Ok, Err, sym, ap, subst, ◌∙◌}
 use Rattle.std.specs.Prelude.{codes, decimal}
 use Rattle.vt_base.specs.declared.value.Value.{Value}
 use Rattle.vt_model.specs.Model.{Model}
@@ -7,7 +7,7 @@ use Rattle.vt_query.specs.Tables.{StandFor}
 use Rattle.vt_history.specs.History.{Cause, Step, load, commit, model_after, tables_after}
 use Rattle.vt_session.specs.declared.buffers.Buffer.{Buffer}
 use Rattle.vt_session.specs.Buffers.{Denial, begun, changed, aborted}
-use Rattle.vt_session.specs.Run.{State, IsStep, IsStart, committed, after_step}
+use Rattle.vt_session.specs.Run.{State, IsStep, committed, after_step}
 use Rattle.vt_session.specs.Session.{table_in}
 use Rattle.vt_script.specs.declared.line.Line.{Line}
 use Rattle.vt_script.specs.declared.line.Line.TheVariants as line

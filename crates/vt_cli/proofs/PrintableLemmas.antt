@@ -28,7 +28,7 @@ use Rattle.vt_session.specs.Run.{State, committed_from, refused_at}
 use Rattle.vt_session.specs.Session.{Kept, IsOfOne, Commits}
 use Rattle.vt_session.specs.Session.{table_in}
 use Rattle.vt_cli.specs.Inside.Printable.{AllNamed, AllTablesNamed, AllEventsNamed}
-use Rattle.vt_cli.specs.Inside.Begun.{ground_of, IsAt}
+use Rattle.vt_cli.specs.Inside.Begun.{IsAt}
 use Rattle.vt_cli.proofs.NamedLemmas.{tables_named}
 use Rattle.vt_cli.proofs.StepNameLemmas.{kept_tables_named, events_named, asked_named}
 use Rattle.vt_cli.proofs.HeldLemmas.{held-found}

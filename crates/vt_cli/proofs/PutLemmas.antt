@@ -1,9 +1,9 @@
 -- Texts that are put one after the other, and the ending of what was put.
-use Rattle.std.proofs.Common.{◌≡◌, ℕ, zero, suc, ◌+◌, ◌≤◌, min, List, [], ◌∷◌, ◌++◌, length, take, Option, Some, None, Result, Ok, Err, refl, sym, ap, subst, ◌∙◌, arith, inl, inr}
+use Rattle.std.proofs.Common.{◌≡◌, ℕ, zero, suc, ◌+◌, ◌≤◌, min, List, [], ◌∷◌, ◌++◌, length, take, Option, Result, Ok, Err, refl, sym, ap, subst, ◌∙◌, arith, inl, inr}
 use Rattle.std.specs.Prelude.{IsErr, OnOk, OnErr}
 use Rattle.std.specs.Io.KnownBytes.{Appends}
 use Rattle.std.proofs.KnownBytes.{Appends-nil, Appends-trans}
-use Rattle.vt_outside.specs.Faults.{Rose, raised, CountsPut}
+use Rattle.vt_outside.specs.Faults.{raised, CountsPut}
 use Rattle.vt_outside.specs.Sink.{AppendsPrefix}
 use Rattle.vt_outside.specs.declared.sink.PutFail.{PutFail}
 use Rattle.vt_outside.specs.declared.sink.PutFail.TheVariants as put

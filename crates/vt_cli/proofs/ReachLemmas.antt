@@ -1,7 +1,6 @@
 -- From each state of a run some text answers the commands that are left, whatever memory there is.
-use Rattle.std.proofs.Common.{◌≡◌, ℕ, zero, suc, ◌+◌, ◌<◌, List, [], ◌∷◌, ◌++◌, length, Bool, true, false, Option, Some, None, Result, Ok, Err, refl, sym, ap, subst, ◌∙◌, arith}
-use Rattle.std.specs.Prelude.{All, codes, decimal, slice_get}
-use Rattle.std.specs.List.{slice_index_or}
+use Rattle.std.proofs.Common.{◌≡◌, ℕ, zero, suc, ◌+◌, ◌<◌, List, [], ◌∷◌, ◌++◌, length, false, Option, Some, None, Result, Ok, Err, refl, subst, arith}
+use Rattle.std.specs.Prelude.{codes, decimal, slice_get}
 use Rattle.vt_base.specs.Rows.{Ascends}
 use Rattle.vt_base.specs.declared.value.Value.{Value}
 use Rattle.vt_model.specs.Metamodel.{Metamodel}
@@ -9,21 +8,19 @@ use Rattle.vt_model.specs.Model.{Model}
 use Rattle.vt_model.specs.Base.{counts_of}
 use Rattle.vt_query.specs.Holding.{table_of}
 use Rattle.vt_query.specs.Narrow.{IsNarrow}
-use Rattle.vt_query.specs.Tables.{StandFor, IsTableOf}
-use Rattle.vt_query.specs.declared.program.Pattern.{Pattern}
+use Rattle.vt_query.specs.Tables.{StandFor}
 use Rattle.vt_query.specs.declared.program.Program.{Program}
-use Rattle.vt_graph.specs.Asked.{all_names}
 use Rattle.vt_model_json.specs.Dump.{dump}
 use Rattle.vt_history.specs.History.{commit, Step, IsHistory, model_after, tables_after}
 use Rattle.vt_session.specs.declared.buffers.Buffer.{Buffer}
 use Rattle.vt_session.specs.Buffers.{Denial, already_open, too_many_open, not_open, too_many_changes, refused, begun, changed, aborted}
-use Rattle.vt_session.specs.Run.{State, committed, without, after_step}
-use Rattle.vt_session.specs.Session.{Kept, StandsFor, table_in}
+use Rattle.vt_session.specs.Run.{State, committed, after_step}
+use Rattle.vt_session.specs.Session.{Kept, table_in}
 use Rattle.vt_script.specs.declared.line.Line.{Line}
 use Rattle.vt_script.specs.declared.line.Line.TheVariants as line
 use Rattle.vt_cli.specs.Unbuilt.{is_unbuilt}
-use Rattle.vt_cli.specs.Replies.{told, denial_text, matches_text, AreEventTexts}
-use Rattle.vt_cli.specs.Running.{Ground, names_at, BufferReply, StepReply, CommitReply, after_denial, MatchesReply, Replied, Answered}
+use Rattle.vt_cli.specs.Replies.{told, denial_text, matches_text}
+use Rattle.vt_cli.specs.Running.{Ground, names_at, BufferReply, CommitReply, after_denial, MatchesReply, Replied, Answered}
 use Rattle.vt_cli.specs.Inside.Begun.{ground_of, IsAt, AreBuilt}
 use Rattle.vt_cli.proofs.SomeEventLemmas.{AllAscend, some_events}
 

@@ -1,7 +1,6 @@
 -- What a session's answers and the texts of replies say of a run.
-use Rattle.std.proofs.Common.{◌≡◌, ◌⊎◌, ℕ, ◌+◌, List, [], ◌∷◌, ◌++◌, length, Option, Some, None, Result, Ok, Err, refl, sym, ap, subst, ◌∙◌, inl, inr}
+use Rattle.std.proofs.Common.{◌≡◌, ◌⊎◌, ℕ, ◌+◌, List, ◌++◌, length, Option, Some, None, Result, Ok, Err, refl, sym, ap, subst, ◌∙◌, inl, inr}
 use Rattle.std.specs.Prelude.{OnOk, OnErr, IfOk, IfErr, codes, decimal}
-use Rattle.std.specs.List.{AllByRecursion}
 use Rattle.vt_base.specs.declared.value.Value.{Value}
 use Rattle.vt_model.specs.Metamodel.{Metamodel, enum_names}
 use Rattle.vt_model.specs.Model.{Model}
@@ -11,7 +10,7 @@ use Rattle.vt_model.specs.declared.change.Refusal.{Refusal}
 use Rattle.vt_graph.specs.Asked.{all_names}
 use Rattle.vt_query.specs.Narrow.{IsNarrow}
 use Rattle.vt_query.specs.declared.program.Program.{Program}
-use Rattle.vt_history.specs.History.{Step, model_after, tables_after}
+use Rattle.vt_history.specs.History.{model_after, tables_after}
 use Rattle.vt_history.specs.declared.report.StepReport.{StepReport}
 use Rattle.vt_session.specs.declared.buffers.Buffer.{Buffer}
 use Rattle.vt_session.specs.Buffers.{Denial, already_open, too_many_open, not_open, too_many_changes, refused, buffer_of}
@@ -21,7 +20,7 @@ use Rattle.vt_session.specs.declared.fault.SessionFault.{SessionFault}
 use Rattle.vt_session.specs.declared.fault.SessionFault.TheVariants as fault
 use Rattle.vt_query.specs.declared.program.Pattern.{Pattern}
 use Rattle.vt_cli.specs.Replies.{Names, told, denial_text, matches_text, AreEventTexts}
-use Rattle.vt_cli.specs.Running.{Ground, names_at, BufferReply, StepReply, CommitReply, MatchesReply, after_denial}
+use Rattle.vt_cli.specs.Running.{names_at, BufferReply, CommitReply, MatchesReply, after_denial}
 use Rattle.vt_cli.specs.Inside.Marks.{all_marked}
 use Rattle.vt_cli.specs.Inside.Begun.{ground_of, AreHeld, IsAt, Denies, Tells}
 use Rattle.vt_cli.proofs.HeldLemmas.{held-without}
@@ -78,8 +77,11 @@ matches_replied kept state name rows meta g text meta_is g_is at asked is =
     let found : table_in kept.program (tables_after state.steps) name ≡ Some rows = ap (λ t. table_in kept.program t name) (sym at.stands.tables) ∙ asked in
     let names : Metamodel → Model → Names = λ m h. record { enums = enum_names m; objects = all_names h } in (
       state,
-      (refl, subst (λ r. MatchesReply (names_at (ground_of kept) state) name r text) (sym found)
-          (is ∙ ap (λ m. matches_text (names m g) name rows) meta_is ∙ ap (λ h. matches_text (names kept.meta h) name rows) (g_is ∙ at.stands.model))),
+      (
+        refl,
+        subst (λ r. MatchesReply (names_at (ground_of kept) state) name r text) (sym found)
+            (is ∙ ap (λ m. matches_text (names m g) name rows) meta_is ∙ ap (λ h. matches_text (names kept.meta h) name rows) (g_is ∙ at.stands.model)),
+      ),
       at,
     )
 

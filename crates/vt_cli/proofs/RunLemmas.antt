@@ -1,5 +1,5 @@
 -- Commands that are answered one after the other, and what was put of their replies.
-use Rattle.std.proofs.Common.{◌≡◌, ℕ, suc, ◌+◌, ◌≤◌, ◌<◌, List, [], ◌∷◌, ◌++◌, length, Option, Some, None, Result, Ok, Err, refl, sym, ap, subst, ◌∙◌, arith, append_assoc, append-nil}
+use Rattle.std.proofs.Common.{◌≡◌, ℕ, ◌+◌, ◌≤◌, ◌<◌, List, [], ◌∷◌, ◌++◌, length, Option, Result, Ok, Err, refl, sym, ap, subst, ◌∙◌, arith, append_assoc, append-nil}
 use Rattle.std.specs.Prelude.{codes, drop}
 use Rattle.std.specs.List.{slice_index_or}
 use Rattle.std.proofs.lemmas.List.{at_drop_more}
@@ -14,7 +14,6 @@ use Rattle.vt_model.specs.Base.{counts_of}
 use Rattle.vt_query.specs.Narrow.{IsNarrow}
 use Rattle.vt_query.specs.Tables.{StandFor}
 use Rattle.vt_query.specs.declared.program.Program.{Program}
-use Rattle.vt_history.specs.History.{Step}
 use Rattle.vt_session.specs.declared.buffers.Buffer.{Buffer}
 use Rattle.vt_session.specs.Buffers.{Denial, already_open, too_many_open, not_open, too_many_changes, refused, begun, changed, aborted}
 use Rattle.vt_session.specs.Run.{State, committed}
@@ -142,7 +141,7 @@ module _ (first kept : Kept) (one : IsOfOne first kept) (lines rest : List Line)
 
 module _ (first : Kept) (narrow : IsNarrow (counts_of first.meta) first.program)
     (tables_stand : (meta : Metamodel) (g : Model) (program : Program) → IsNarrow (counts_of meta) program
-        → (tables : List (List (List Value))) × StandFor meta g program tables)
+    → (tables : List (List (List Value))) × StandFor meta g program tables)
     (kept : Kept) (one : IsOfOne first kept) (lines rest : List Line) (old mid : Option (List ℕ)) (done : ℕ) (state : State) where
   -- nothing of the reply was put
   pub cut_before : AreBuilt rest → HasAnswered first kept lines rest old mid done state
@@ -189,7 +188,7 @@ module _ (kept : Kept) (lines : List Line) (begun : IsBegun kept lines) where
       (load_line ++ r.0, run_of r.0 r.1, front_after old mid new load_line r.0 load r.2)
 
   pub run_cut : ((meta : Metamodel) (g : Model) (program : Program) → IsNarrow (counts_of meta) program
-          → (tables : List (List (List Value))) × StandFor meta g program tables)
+      → (tables : List (List (List Value))) × StandFor meta g program tables)
       → (old new : Option (List ℕ)) → AppendsPrefix old new load_line
       → (text : List ℕ) × IsRun (ground_of kept) kept.model lines text × AppendsPrefix old new text
   run_cut tables_stand old new part =

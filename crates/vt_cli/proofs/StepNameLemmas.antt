@@ -1,29 +1,24 @@
 -- What the rows of a run name has a name: those of the model now, and those that a step took away.
-use Rattle.std.proofs.Common.{◌≡◌, ◌⊎◌, inl, inr, ℕ, zero, suc, ◌<◌, length, Bool, true, false, List, [], ◌∷◌, ◌++◌, Option, Some, None, Ok, option_map, find, map, refl, sym, ap, subst, ◌∙◌, arith}
-use Rattle.std.specs.Prelude.{All, Contains, ◌==◌, ◌&&◌, IsSome, slice_get, position, option_and_then, unwrap_or}
-use Rattle.std.specs.List.{AllByRecursion}
+use Rattle.std.proofs.Common.{◌≡◌, ◌⊎◌, inl, inr, ℕ, zero, suc, Bool, true, List, [], ◌∷◌, ◌++◌, Option, Some, None, option_map, find, refl, sym, subst, ◌∙◌, arith}
+use Rattle.std.specs.Prelude.{Contains, ◌==◌, ◌&&◌, IsSome, slice_get, position, option_and_then}
 use Rattle.std.specs.Option.{option_or}
 use Rattle.std.proofs.lemmas.Bool.{eq-eqb}
 use Rattle.std.proofs.lemmas.Bool.Decides.{nat_tests}
 use Rattle.std.proofs.lemmas.List.Elements.{All-contains, All-from_recursion, recursion_from_All}
 use Rattle.std.proofs.lemmas.List.Folds.{find-append}
-use Rattle.vt_facts.proofs.MemberLemmas.{Contains-head, Contains-behind, Contains-map, Contains-from_map, Contains-find, find-some, All-from_contains}
+use Rattle.vt_facts.proofs.MemberLemmas.{Contains-behind, Contains-map, Contains-from_map, Contains-find, find-some, All-from_contains}
 use Rattle.vt_base.specs.Rows.{has_row}
 use Rattle.vt_base.specs.Names.{EnumNames, ObjectName, object_name, IsNamed, AreNamed}
 use Rattle.vt_base.specs.declared.numbers.ObjId.{ObjId}
-use Rattle.vt_base.specs.declared.numbers.PatternId.{PatternId}
 use Rattle.vt_base.specs.declared.value.Value.{Value}
 use Rattle.vt_base.specs.declared.value.Value.TheVariants.{Bool as Flag, Int, Text, Enum, Obj}
 use Rattle.vt_facts.specs.Names.{is_name}
-use Rattle.vt_model.specs.Metamodel.{Metamodel, enum_names}
 use Rattle.vt_model.specs.Model.{Model, object_names}
 use Rattle.vt_model.specs.Kept.{IsKnown, Keeps}
 use Rattle.vt_model.specs.declared.model.Object.{Object}
 use Rattle.vt_graph.specs.Asked.{all_names}
-use Rattle.vt_query.specs.Holding.{table_of}
 use Rattle.vt_query.specs.declared.program.Pattern.{Pattern}
 use Rattle.vt_query.specs.declared.program.Program.{Program}
-use Rattle.vt_history.specs.Events.{AreEvents}
 use Rattle.vt_history.specs.declared.report.PatternEvents.{PatternEvents}
 use Rattle.vt_session.specs.Session.{table_in}
 use Rattle.vt_cli.specs.Inside.Marks.{happened, event_rows}

@@ -8,7 +8,7 @@ use Rattle.vt_query.specs.declared.program.Program.{Program}
 use Rattle.vt_model_json.specs.Dump.{dump}
 use Rattle.vt_history.specs.History.{commit, Step, model_after, tables_after}
 use Rattle.vt_session.specs.declared.buffers.Buffer.{Buffer}
-use Rattle.vt_session.specs.Buffers.{Denial, not_open, refused, begun, changed, aborted}
+use Rattle.vt_session.specs.Buffers.{Denial, refused, begun, changed, aborted}
 use Rattle.vt_session.specs.Session.{table_in}
 use Rattle.vt_session.specs.Run.{State, IsStart, IsStep, committed, without, after_step}
 use Rattle.vt_script.specs.declared.line.Line.{Line}

@@ -1,5 +1,5 @@
 // The command `matches`: the match lists of a query file.
-ghost use Rattle.std.specs.Prelude.{◌≡◌, ◌⊎◌, ◌++◌, ◌≤◌, IfOk, OnOk, codes, decimal, flat_map, map, length, List};
+ghost use Rattle.std.specs.Prelude.{◌≡◌, ◌++◌, ◌≤◌, IfOk, OnOk, codes, decimal, flat_map, map, length, List};
 ghost use Rattle.vt_base.specs.Names.{AreNamed};
 ghost use Rattle.vt_cli.specs.Lists.{match_line, shown_list, match_lists};
 ghost use Rattle.vt_model.specs.Base.{counts_of};

@@ -1,8 +1,6 @@
 // The run of a script: its commands one after the other, each with its reply.
-ghost use Rattle.std.specs.Prelude.{◌≡◌, ◌≤◌, ◌<◌, ◌+◌, length, IfOk, false, Some, None};
-ghost use Rattle.vt_model.specs.Metamodel.{enum_names};
+ghost use Rattle.std.specs.Prelude.{◌≡◌, ◌≤◌, ◌<◌, ◌+◌, length, false, Some, None};
 ghost use Rattle.vt_model.specs.declared.change.Change.{Change};
-ghost use Rattle.vt_graph.specs.Asked.{all_names};
 ghost use Rattle.vt_outside.specs.Faults.{CountsPut};
 ghost use Rattle.vt_session.specs.Run.{State};
 ghost use Rattle.vt_session.specs.Session.{IsOfOne};

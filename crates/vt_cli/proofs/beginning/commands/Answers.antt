@@ -1,5 +1,4 @@
 use Rattle.std.proofs.Common.{◌∙◌, sym, subst}
-use Rattle.vt_cli.specs.Unbuilt.{unbuilt}
 use Rattle.vt_cli.specs.Inside.Begun.{AreBuilt}
 use Rattle.vt_cli.proofs.BeginLemmas.{all_built}
 use Rattle.vt_cli.proofs.beginning.commands.Goals as goal

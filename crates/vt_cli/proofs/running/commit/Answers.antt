@@ -25,20 +25,20 @@ returns-in-Ok-clause-reply g c = λ state at.
     let store = c.store-store.result.now in
     let report = c.in-Ok.report in
     IfOk-map c.step.result _ _ (λ text is.
-        step_replied c.args.session.now c.commit.new.self c.commit.ensures.of c.args.client.now state report text store.meta store.model c.program.result.now at
-        (c.in-Ok.ensures.done state at.stands) c.store-store.ensures.meta c.store-store.ensures.model c.program.ensures
-        (subst (λ patterns. text ≡ told (codes "commit") c.args.client.now (codes "step " ++ decimal report.step)
-        ++ all_marked (record { enums = enum_names store.meta; objects = all_names store.model }) patterns report.events) c.as_slice-patterns.ensures is)) c.step.ensures
+    step_replied c.args.session.now c.commit.new.self c.commit.ensures.of c.args.client.now state report text store.meta store.model c.program.result.now at
+    (c.in-Ok.ensures.done state at.stands) c.store-store.ensures.meta c.store-store.ensures.model c.program.ensures
+    (subst (λ patterns. text ≡ told (codes "commit") c.args.client.now (codes "step " ++ decimal report.step)
+    ++ all_marked (record { enums = enum_names store.meta; objects = all_names store.model }) patterns report.events) c.as_slice-patterns.ensures is)) c.step.ensures
 
 -- the transaction isn't open, or is refused
 pub returns-in-Err-clause-reply : goal.returns-in-Err-clause-reply
 returns-in-Err-clause-reply g c = λ state at.
     IfOk-map c.refused.result _ _ (λ text says.
-        refusal_replied c.args.session.now c.commit.new.self c.commit.ensures.of c.in-Err.fault c.args.client.now text state at
-        (c.in-Err.ensures.refused state at.stands)
-        (λ n refusal is. c.commit.ensures.ended state at.stands n refusal (c.in-Err.is ∙ ap (λ f. Err f) is))
-        (λ either. c.commit.ensures.unchanged (elim either [
-          | inl e ↦ inl (c.in-Err.is ∙ ap (λ f. Err f) e)
-          | inr e ↦ inr (c.in-Err.is ∙ ap (λ f. Err f) e)
-        ]))
-        says) c.refused.ensures
+    refusal_replied c.args.session.now c.commit.new.self c.commit.ensures.of c.in-Err.fault c.args.client.now text state at
+    (c.in-Err.ensures.refused state at.stands)
+    (λ n refusal is. c.commit.ensures.ended state at.stands n refusal (c.in-Err.is ∙ ap (λ f. Err f) is))
+    (λ either. c.commit.ensures.unchanged (elim either [
+      | inl e ↦ inl (c.in-Err.is ∙ ap (λ f. Err f) e)
+      | inr e ↦ inr (c.in-Err.is ∙ ap (λ f. Err f) e)
+    ]))
+    says) c.refused.ensures

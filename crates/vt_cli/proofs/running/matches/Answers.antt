@@ -17,7 +17,7 @@ pub returns-in-Some : goal.returns-in-Some
 returns-in-Some c = record {
   reply = λ state at.
       IfOk-map c.matches-in-Some.result _ _ (λ text is.
-          matches_replied c.args.session.now state c.args.pattern.now c.in-Some.rows.now.items c.store-store.result.now.meta c.store-store.result.now.model text
-          c.store-store.ensures.meta c.store-store.ensures.model at
-          (sym c.matches.ensures ∙ ap (λ found. option_map (λ rows. rows.items) (option_copied found)) c.in-Some.is) is) c.matches-in-Some.ensures;
+      matches_replied c.args.session.now state c.args.pattern.now c.in-Some.rows.now.items c.store-store.result.now.meta c.store-store.result.now.model text
+      c.store-store.ensures.meta c.store-store.ensures.model at
+      (sym c.matches.ensures ∙ ap (λ found. option_map (λ rows. rows.items) (option_copied found)) c.in-Some.is) is) c.matches-in-Some.ensures;
 }

@@ -1,4 +1,4 @@
-use Rattle.std.proofs.Common.{◌∙◌, ◌+◌, ◌∷◌, [], List, drop, sym, subst}
+use Rattle.std.proofs.Common.{◌∙◌, ◌+◌, [], List, drop, subst}
 use Rattle.std.specs.Io.KnownBytes.{Appends}
 use Rattle.std.proofs.lemmas.List.{drop_all}
 use Rattle.vt_outside.specs.Sink.{AppendsPrefix}
