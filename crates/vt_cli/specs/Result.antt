@@ -16,7 +16,7 @@ use Rattle.vt_script.specs.Script.{script_of}
 use Rattle.vt_script.specs.declared.line.Line.{Line}
 use Rattle.vt_cli.specs.Command.{Command, command_of}
 use Rattle.vt_cli.specs.Lines.{usage_line}
-use Rattle.vt_cli.specs.Texts.{texts_of, text_of}
+use Rattle.vt_cli.specs.Texts.{◌>>=◌, texts_of, text_of}
 use Rattle.vt_cli.specs.Refusals.{refused_meta, refused_model, refused_queries, refused_rules, refused_script}
 use Rattle.vt_cli.specs.Lists.{match_lists}
 use Rattle.vt_cli.specs.Running.{IsRun}
