@@ -1,0 +1,9 @@
+//! Memories of rows: sets with buckets, which need no memory for what they have room for.
+//!
+//! It stands on `vt_facts`, `vt_sorted`, `vt_base` and `vt_delta`, and keeps its rows in a `slab`.
+//! Read `specs/Keyed.antt`; it is trusted.
+#![tactic(auto)]
+
+// A set of rows with buckets.
+mod chains;
+
