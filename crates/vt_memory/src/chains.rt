@@ -1,5 +1,5 @@
 // Chains of keys: each place has a list of numbers, and a number is in one list at most.
-ghost use Rattle.std.specs.Prelude.{◌≡◌, ◌+◌, ◌^◌, ◌%◌, ◌<◌, ◌≤◌, [], ◌∷◌, length, replicate, IfOk, MatchOption};
+ghost use Rattle.std.specs.Prelude.{◌≡◌, ◌+◌, ◌^◌, ◌%◌, ◌<◌, ◌≤◌, [], ◌∷◌, length, replicate, slice_set, IfOk, MatchOption};
 ghost use Rattle.vt_memory.specs.Inside.Chains.{IsFree, times, chain_at, with_key, without_key};
 
 use std::alloc::Global;
@@ -56,9 +56,7 @@ impl Chains {
         let place = place(number, self.heads.len());
         let head = self.heads[place];
         self.next[key] = head;
-        if (head as usize) < self.back.len() {
-            self.back[head as usize] = key as u32;
-        }
+        link(&mut self.back, head, key as u32);
         self.heads[place] = key as u32;
     }
 
@@ -76,9 +74,7 @@ impl Chains {
         }
         let before = self.back[key];
         self.next[before as usize] = after;
-        if (after as usize) < self.back.len() {
-            self.back[after as usize] = before;
-        }
+        link(&mut self.back, after, before);
     }
 
     /// The keys in the chain of a number.
@@ -97,6 +93,15 @@ impl Chains {
         ensures { result ≡ self.now.reach }
     {
         self.next.len()
+    }
+}
+
+// Sets the link of a key. That of no key isn't kept.
+fn link(links: &mut Vec<u32>, key: u32, to: u32)
+    ensures { links.new.items ≡ slice_set links.old.items key to }
+{
+    if (key as usize) < links.len() {
+        links[key as usize] = to;
     }
 }
 
