@@ -1,9 +1,10 @@
 -- Chains of keys, and what an edit leaves of them.
-use Rattle.std.proofs.Common.{◌≡◌, ◌≢◌, ◌⊎◌, ℕ, zero, suc, ◌+◌, ◌^◌, ◌%◌, ◌<◌, ◌≤◌, length, get_or, set, map, replicate, Bool, true, false, not, cond, eqb, ltb, List, [], ◌∷◌, refl, sym, ap, ◌∙◌, subst, inl, inr, arith}
-use Rattle.std.specs.List.{filter}
+use Rattle.std.proofs.Common.{◌≡◌, ◌≢◌, ◌⊎◌, ℕ, zero, suc, ◌+◌, ◌^◌, ◌%◌, ◌<◌, ◌≤◌, length, get_or, set, map, replicate, Bool, true, false, not, cond, eqb, ltb, Option, Some, List, [], ◌∷◌, refl, sym, ap, ◌∙◌, subst, inl, inr, arith}
+use Rattle.std.specs.List.{filter, slice_get}
 use Rattle.std.proofs.lemmas.Bool.{cases_eq, cases_lt}
 use Rattle.std.proofs.lemmas.Bool.Decides.{nat_tests}
 use Rattle.std.proofs.lemmas.List.{length-set, length-map, get_or-map, get_or-set_same, get_or-set_other, get_or_past, set_past, map-set, same_lists, get_or_default}
+use Rattle.std.proofs.lemmas.Option.{slice_get_within, get_or_from_slice_get}
 use Rattle.vt_memory.specs.Inside.Chains.{times, without, IsFree, chain_at, with_key, without_key, chain, chains_from, IsPath, IsAfter, IsBacked, IsLinking, AreLinked}
 
 -- ---- times, without
@@ -138,6 +139,33 @@ next_not_first next at j js k p alone some e =
     begins : (is : List ℕ) → IsPath next (get_or next j 0) is → times j is ≡ 0 → get_or next j 0 ≡ j → ⊥
     begins [] q n f = omega (arith, p.1)
     begins (i ∷ is) q n f = omega (arith, times-same i is, ap (λ m. times m (i ∷ is)) (sym f ∙ q.0))
+
+chain_short : (n : ℕ) (next : List ℕ) (at : ℕ) → length (chain n next at) ≤ n
+chain_short zero next at = omega arith
+chain_short (suc n) next at =
+    elim (ltb at (length next)) as (λ b. length (cond b (at ∷ chain n next (get_or next at 0)) []) ≤ suc n) [
+      | true ↦ omega (arith, chain_short n next (get_or next at 0))
+      | false ↦ omega arith
+    ]
+
+-- a walk along a path goes on along what is left of it
+pub path_step : (next : List ℕ) (at after : ℕ) → IsPath next at (chain (length next) next at) → slice_get next at ≡ Some after
+    → (chain (length next) next at ≡ at ∷ chain (length next) next after) × IsPath next after (chain (length next) next after)
+path_step next at after p found = from (length next) refl p (slice_get_within next at after found) (get_or_from_slice_get next at after 0 found)
+  where
+    from : (n : ℕ) → n ≡ length next → IsPath next at (chain n next at) → at < length next → get_or next at 0 ≡ after
+        → (chain n next at ≡ at ∷ chain (length next) next after) × IsPath next after (chain (length next) next after)
+    from zero e q inside read = absurd (omega arith)
+    from (suc m) e q inside read =
+        let test : ltb at (length next) ≡ true = grind (arith, nat_tests) in
+        let cons : chain (suc m) next at ≡ at ∷ chain m next (get_or next at 0) = rw test refl in
+        let whole : IsPath next at (at ∷ chain m next (get_or next at 0)) = subst (IsPath next at) cons q in
+        let rest : chain (length next) next (get_or next at 0) ≡ chain m next (get_or next at 0) =
+            chain_is (length next) next (get_or next at 0) (chain m next (get_or next at 0)) whole.2 (omega (arith, chain_short m next (get_or next at 0))) in
+        (
+          cons ∙ ap (λ zs. at ∷ zs) (sym rest ∙ ap (chain (length next) next) read),
+          subst (λ i. IsPath next i (chain (length next) next i)) read (subst (IsPath next (get_or next at 0)) (sym rest) whole.2),
+        )
 
 -- ---- IsBacked
 

@@ -5,5 +5,12 @@
 #![tactic(auto)]
 
 // A set of rows with buckets.
+mod memory;
+// How its rows are found.
 mod chains;
+mod index;
+mod numbers;
+mod search;
 
+// A set of rows with buckets.
+pub use memory::Memory;
