@@ -1,10 +1,9 @@
 -- Chains of keys, and what an edit leaves of them.
-use Rattle.std.proofs.Common.{◌≡◌, ◌≢◌, ◌⊎◌, ℕ, zero, suc, ◌+◌, ◌^◌, ◌%◌, ◌<◌, ◌≤◌, length, get_or, set, map, replicate, Bool, true, false, not, cond, eqb, ltb, Option, Some, List, [], ◌∷◌, refl, sym, ap, ◌∙◌, subst, inl, inr, arith}
-use Rattle.std.specs.List.{filter, slice_get}
+use Rattle.std.proofs.Common.{◌≡◌, ◌≢◌, ◌⊎◌, ℕ, zero, suc, ◌+◌, ◌^◌, ◌%◌, ◌<◌, ◌≤◌, length, get_or, set, map, replicate, Bool, true, false, not, cond, eqb, ltb, List, [], ◌∷◌, refl, sym, ap, ◌∙◌, subst, inl, inr, arith}
+use Rattle.std.specs.List.{filter}
 use Rattle.std.proofs.lemmas.Bool.{cases_eq, cases_lt}
 use Rattle.std.proofs.lemmas.Bool.Decides.{nat_tests}
 use Rattle.std.proofs.lemmas.List.{length-set, length-map, get_or-map, get_or-set_same, get_or-set_other, get_or_past, set_past, map-set, same_lists, get_or_default}
-use Rattle.std.proofs.lemmas.Option.{slice_get_within, get_or_from_slice_get}
 use Rattle.vt_memory.specs.Inside.Chains.{times, without, IsFree, chain_at, with_key, without_key, chain, chains_from, IsPath, IsAfter, IsBacked, IsLinking, AreLinked}
 
 -- ---- times, without
@@ -149,9 +148,9 @@ chain_short (suc n) next at =
     ]
 
 -- a walk along a path goes on along what is left of it
-pub path_step : (next : List ℕ) (at after : ℕ) → IsPath next at (chain (length next) next at) → slice_get next at ≡ Some after
+pub path_step : (next : List ℕ) (at after : ℕ) → IsPath next at (chain (length next) next at) → at < length next → get_or next at 0 ≡ after
     → (chain (length next) next at ≡ at ∷ chain (length next) next after) × IsPath next after (chain (length next) next after)
-path_step next at after p found = from (length next) refl p (slice_get_within next at after found) (get_or_from_slice_get next at after 0 found)
+path_step next at after p inside read = from (length next) refl p inside read
   where
     from : (n : ℕ) → n ≡ length next → IsPath next at (chain n next at) → at < length next → get_or next at 0 ≡ after
         → (chain n next at ≡ at ∷ chain (length next) next after) × IsPath next after (chain (length next) next after)

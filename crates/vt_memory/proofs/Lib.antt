@@ -1,2 +1,5 @@
 pub mod ChainLemmas
 pub mod LinkLemmas
+pub mod SetLemmas
+pub mod IndexLemmas
+pub mod BucketLemmas

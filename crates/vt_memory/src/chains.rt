@@ -140,8 +140,10 @@ impl<'a> Walk<'a> {
             (λ key. self.old ≡ key ∷ self.new) }
     {
         let key = self.at as usize;
-        let after = self.next.get(key)?;
-        self.at = *after;
+        if key >= self.next.len() {
+            return None;
+        }
+        self.at = self.next[key];
         Some(key)
     }
 }

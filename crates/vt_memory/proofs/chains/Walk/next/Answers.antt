@@ -1,14 +1,18 @@
-use Rattle.std.proofs.Common.{◌≡◌, Some, sym, ◌∙◌}
-use Rattle.std.specs.List.{slice_get}
+use Rattle.std.proofs.Common.{◌≡◌, ◌<◌, length, get_or, sym, ◌∙◌, arith}
+use Rattle.std.proofs.lemmas.List.{get_or_read}
 use Rattle.vt_memory.proofs.ChainLemmas.{path_step}
 use Rattle.vt_memory.proofs.chains.Walk.next.Goals as goal
 
 pub invariant_of-self : goal.invariant_of-self
 invariant_of-self c =
-    let found : slice_get c.self.inside.next.now c.self.inside.at ≡ Some c.in_ok-after.after.now = cc (c.in_ok-after.ensures.lookup) in
-    (path_step c.self.inside.next.now c.self.inside.at c.in_ok-after.after.now c.self.invariant found).1
+    let next = c.self.inside.next.now in
+    let inside : c.self.inside.at < length next = omega arith in
+    let read : get_or next c.self.inside.at 0 ≡ c.index.result.now = sym (get_or_read next c.self.inside.at c.index.result.now inside c.index.ensures 0) in
+    (path_step next c.self.inside.at c.index.result.now c.self.invariant inside read).1
 
 pub returns : goal.returns
 returns c =
-    let found : slice_get c.self.inside.next.now c.self.inside.at ≡ Some c.in_ok-after.after.now = cc (c.in_ok-after.ensures.lookup) in
-    sym c.self.view_is ∙ (path_step c.self.inside.next.now c.self.inside.at c.in_ok-after.after.now c.self.invariant found).0
+    let next = c.self.inside.next.now in
+    let inside : c.self.inside.at < length next = omega arith in
+    let read : get_or next c.self.inside.at 0 ≡ c.index.result.now = sym (get_or_read next c.self.inside.at c.index.result.now inside c.index.ensures 0) in
+    sym c.self.view_is ∙ (path_step next c.self.inside.at c.index.result.now c.self.invariant inside read).0
