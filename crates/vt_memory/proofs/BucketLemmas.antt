@@ -67,18 +67,20 @@ module _ (slab : Slab (List Value)) (cs : List ℕ) (vs : List Value) where
   -- what is found stands under one of the keys
   pub fitting_to : (ks : List ℕ) (q : List Value) → has_row (fitting slab cs vs ks) q ≡ true → (k : ℕ) × (0 < times k ks) × (get slab k ≡ Some q) × (has_values cs vs q ≡ true)
   fitting_to [] q h = absurd (true≢false (sym h))
-  fitting_to (k ∷ ks) q h = of (if_fits cs vs (get slab k)) refl h
+  fitting_to (k ∷ ks) q h = of (λ f. fitting_to ks q f) (if_fits cs vs (get slab k)) refl h
     where
-      later : has_row (fitting slab cs vs ks) q ≡ true → (j : ℕ) × (0 < times j (k ∷ ks)) × (get slab j ≡ Some q) × (has_values cs vs q ≡ true)
-      later f = let at = fitting_to ks q f in (at.0, omega (arith, times-tail at.0 k ks, at.1), at.2, at.3)
-      of : (o : Option (List Value)) → if_fits cs vs (get slab k) ≡ o → has_row (and_row o (fitting slab cs vs ks)) q ≡ true → (j : ℕ) × (0 < times j (k ∷ ks)) × (get slab j ≡ Some q) × (has_values cs vs q ≡ true)
-      of None e f = later f
-      of (Some row) e f =
+      later : (has_row (fitting slab cs vs ks) q ≡ true → (j : ℕ) × (0 < times j ks) × (get slab j ≡ Some q) × (has_values cs vs q ≡ true))
+          → has_row (fitting slab cs vs ks) q ≡ true → (j : ℕ) × (0 < times j (k ∷ ks)) × (get slab j ≡ Some q) × (has_values cs vs q ≡ true)
+      later on f = let at = on f in (at.0, omega (arith, times-tail at.0 k ks, at.1), at.2, at.3)
+      of : (has_row (fitting slab cs vs ks) q ≡ true → (j : ℕ) × (0 < times j ks) × (get slab j ≡ Some q) × (has_values cs vs q ≡ true))
+          → (o : Option (List Value)) → if_fits cs vs (get slab k) ≡ o → has_row (and_row o (fitting slab cs vs ks)) q ≡ true → (j : ℕ) × (0 < times j (k ∷ ks)) × (get slab j ≡ Some q) × (has_values cs vs q ≡ true)
+      of on None e f = later on f
+      of on (Some row) e f =
           elim (eq_by_cmp tuple_cmp q row) as (λ b. eq_by_cmp tuple_cmp q row ≡ b → (b || has_row (fitting slab cs vs ks) q) ≡ true → (j : ℕ) × (0 < times j (k ∷ ks)) × (get slab j ≡ Some q) × (has_values cs vs q ≡ true)) [
             | true ↦ λ same _.
                 let parts = fits_is (get slab k) q (e ∙ ap Some (sym (same_row q row same))) in
                 (k, omega (arith, times-same k ks), parts.0, parts.1)
-            | false ↦ λ _ g. later g
+            | false ↦ λ _ g. later on g
           ] refl f
 
   pub fitting_from : (ks : List ℕ) (k : ℕ) (q : List Value) → 0 < times k ks → get slab k ≡ Some q → has_values cs vs q ≡ true → has_row (fitting slab cs vs ks) q ≡ true
@@ -105,10 +107,8 @@ module _ (slab : Slab (List Value)) (cs : List ℕ) (vs : List Value) where
   pub fitting_distinct : (ks : List ℕ) → IsAlone slab → ((k : ℕ) → times k ks ≤ 1) → IsDistinct (eq_by_cmp tuple_cmp) (fitting slab cs vs ks)
   unfolding IsDistinct
   fitting_distinct [] alone once = tt
-  fitting_distinct (k ∷ ks) alone once = of (if_fits cs vs (get slab k)) refl
+  fitting_distinct (k ∷ ks) alone once = of (fitting_distinct ks alone (λ j. omega (arith, once j, times-tail j k ks))) (if_fits cs vs (get slab k)) refl
     where
-      rest : IsDistinct (eq_by_cmp tuple_cmp) (fitting slab cs vs ks)
-      rest = fitting_distinct ks alone (λ j. omega (arith, once j, times-tail j k ks))
       absent : (q : List Value) → get slab k ≡ Some q → has_row (fitting slab cs vs ks) q ≡ false
       absent q found =
           elim (has_row (fitting slab cs vs ks) q) as (λ b. has_row (fitting slab cs vs ks) q ≡ b → b ≡ false) [
@@ -118,9 +118,9 @@ module _ (slab : Slab (List Value)) (cs : List ℕ) (vs : List Value) where
                 absurd (omega (arith, at.1, ap (λ j. times j ks) same, once k, times-same k ks))
             | false ↦ λ _. refl
           ] refl
-      of : (o : Option (List Value)) → if_fits cs vs (get slab k) ≡ o → IsDistinct (eq_by_cmp tuple_cmp) (and_row o (fitting slab cs vs ks))
-      of None e = rest
-      of (Some q) e = IsDistinct-cons (eq_by_cmp tuple_cmp) q (fitting slab cs vs ks) (none_equal q (fitting slab cs vs ks) (absent q (fits_is (get slab k) q e).0)) rest
+      of : IsDistinct (eq_by_cmp tuple_cmp) (fitting slab cs vs ks) → (o : Option (List Value)) → if_fits cs vs (get slab k) ≡ o → IsDistinct (eq_by_cmp tuple_cmp) (and_row o (fitting slab cs vs ks))
+      of rest None e = rest
+      of rest (Some q) e = IsDistinct-cons (eq_by_cmp tuple_cmp) q (fitting slab cs vs ks) (none_equal q (fitting slab cs vs ks) (absent q (fits_is (get slab k) q e).0)) rest
 
 -- ---- found_by
 

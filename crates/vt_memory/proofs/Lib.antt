@@ -3,3 +3,4 @@ pub mod LinkLemmas
 pub mod SetLemmas
 pub mod IndexLemmas
 pub mod BucketLemmas
+pub mod SeenLemmas

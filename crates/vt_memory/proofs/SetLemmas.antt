@@ -116,6 +116,8 @@ rows_of-added old new k r none updates =
     (λ h. has-with_item (rows_of old) r q ∙ to q (stands_to new q h))
     (λ h. from q (sym (has-with_item (rows_of old) r q) ∙ h)))
   where
+    stands_none : (q : List Value) → Some q ≡ None → ⊥
+    stands_none q e = cc
     to : (q : List Value) → ((i : ℕ) × (get new i ≡ Some q)) → (eq_by_cmp tuple_cmp q r || has_row (rows_of old) q) ≡ true
     to q at =
         elim (cases_eq at.0 k) [
@@ -133,8 +135,6 @@ rows_of-added old new k r none updates =
               let differs : at.0 ≢ k = λ e. stands_none q (sym at.1 ∙ ap (get old) e ∙ none) in
               stands_from new at.0 q (updates.others at.0 differs ∙ at.1)
         ] refl h
-    stands_none : (q : List Value) → Some q ≡ None → ⊥
-    stands_none q e = cc
 
 -- a row goes
 pub rows_of-removed : (old new : Slab (List Value)) (k : ℕ) (r : List Value) → IsAlone old → get old k ≡ Some r → Updates old new k None → rows_of new ≡ without_item tuple_cmp (rows_of old) r
@@ -206,3 +206,21 @@ are_new_from rows first (Some r ∷ slots) new alone = (
 
 pub are_new : (slab : Slab (List Value)) → IsAlone slab → AreNew [] (entries slab)
 are_new slab alone = are_new_from [] 0 slab.slots (λ i q f. refl) alone
+
+-- a row that doesn't stand can be taken out
+pub absent_stays : (rows : List (List Value)) (q : List Value) → Ascends rows → has_row rows q ≡ false → without_item tuple_cmp rows q ≡ rows
+absent_stays rows q s absent =
+    same_rows (without_item tuple_cmp rows q) rows (Ascends-without_item rows q s) s
+    (λ r. has-without_item rows q r ∙ kept r)
+  where
+    and_true : (a : Bool) → (a && true) ≡ a
+    and_true true = refl
+    and_true false = refl
+    kept : (r : List Value) → (has_row rows r && not (eq_by_cmp tuple_cmp r q)) ≡ has_row rows r
+    kept r =
+        elim (eq_by_cmp tuple_cmp r q) as (λ b. eq_by_cmp tuple_cmp r q ≡ b → (has_row rows r && not b) ≡ has_row rows r) [
+          | true ↦ λ same.
+              let none : has_row rows r ≡ false = ap (has_row rows) (same_row r q same) ∙ absent in
+              ap (λ b. b && false) none ∙ sym none
+          | false ↦ λ _. and_true (has_row rows r)
+        ] refl

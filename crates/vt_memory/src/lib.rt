@@ -7,6 +7,8 @@
 // A set of rows with buckets.
 mod memory;
 // How its rows are found.
+mod beyond;
+mod bucket;
 mod chains;
 mod index;
 mod numbers;

@@ -9,10 +9,12 @@ ghost use Rattle.vt_base.specs.declared.value.Value.{Value as Item};
 ghost use Rattle.vt_memory.specs.Keyed.{columns_at, bucket_of};
 ghost use Rattle.vt_memory.specs.Inside.Indexed.{IsAlone, rows_of};
 
+use crate::beyond::first_beyond;
+use crate::bucket::rows_with;
 use crate::chains::Chains;
 use crate::index::{Index, empty_indexes, put_all, take_all};
 use crate::numbers::number_of;
-use crate::search::{first_beyond, key_of, rows_with};
+use crate::search::key_of;
 use slab::Slab;
 use std::alloc::Global;
 use std::marker::Model;

@@ -1,21 +1,16 @@
 // How rows are found in a slab along a chain of its keys.
-ghost use Rattle.std.specs.Prelude.{◌≡◌, ◌+◌, ◌≤◌, length, not, IfOk};
-ghost use Rattle.std.specs.List.{filter, find};
+ghost use Rattle.std.specs.Prelude.{◌≡◌};
 ghost use Rattle.std.specs.Option.{option_copied};
 ghost use Rattle.slab.specs.Slab.{get};
-ghost use Rattle.vt_base.specs.Rows.{has_row};
 ghost use Rattle.vt_memory.specs.Keyed.{has_value, has_values};
 ghost use Rattle.vt_memory.specs.Inside.Chains.{chain_at};
 ghost use Rattle.vt_memory.specs.Inside.Numbers.{number_of};
-ghost use Rattle.vt_memory.specs.Inside.Indexed.{if_fits, is_row, key_among, found_by};
+ghost use Rattle.vt_memory.specs.Inside.Indexed.{if_fits, is_row, key_among};
 
 use crate::chains::Chains;
-use crate::index::Index;
 use crate::numbers::number_of;
 use slab::Slab;
-use std::alloc::Global;
-use std::sync::ledger::Ledger;
-use vt_base::{NoMemory, Plain, Rows, Steps, Tuple, Value};
+use vt_base::{Tuple, Value};
 
 /// The key of a row.
 pub(crate) fn key_of(slab: &Slab<Tuple>, whole: &Chains, row: &Tuple) -> Option<usize>
@@ -40,56 +35,8 @@ fn has_row(slab: &Slab<Tuple>, key: usize, row: &Tuple) -> bool
     }
 }
 
-/// The rows of an index that have these values in its columns. Each is one step.
-pub(crate) fn rows_with<L: Ledger>(
-    alloc: Global,
-    slab: &Slab<Tuple>,
-    index: &Index,
-    values: &[Value],
-    steps: &mut Steps<L>,
-) -> Result<Vec<Tuple>, NoMemory>
-    ensures rows { IfOk result (λ out. out.items ≡ found_by slab.now index.now values.now) }
-    ensures few { steps.new ≤ steps.old + length (found_by slab.now index.now values.now) }
-    ensures ticks { IfOk result (λ out. steps.new ≡ steps.old + length (found_by slab.now index.now values.now)) }
-{
-    let mut out = Vec::new(alloc);
-    let mut keys = index.chains.walk(number_of(values));
-    while let Some(key) = keys.next() {
-        if let Some(row) = row_with(slab, key, index.columns.as_slice(), values) {
-            steps.tick();
-            out.push(row.copy(alloc)?)?;
-        }
-    }
-    Ok(out)
-}
-
-/// A row of an index that has these values in its columns, and isn't given. Each that is looked at
-/// is one step.
-pub(crate) fn first_beyond<'a, L: Ledger>(
-    slab: &'a Slab<Tuple>,
-    index: &Index,
-    values: &[Value],
-    given: &Rows,
-    steps: &mut Steps<L>,
-) -> Option<&'a Tuple>
-    ensures row { option_copied result ≡ find (λ row. not (has_row given.now.items row)) (found_by slab.now index.now values.now) }
-    ensures few { steps.new ≤ steps.old + length (found_by slab.now index.now values.now) }
-    ensures ticks { steps.new ≤ steps.old + length (filter (λ row. has_row given.now.items row) (found_by slab.now index.now values.now)) + 1 }
-{
-    let mut keys = index.chains.walk(number_of(values));
-    while let Some(key) = keys.next() {
-        if let Some(row) = row_with(slab, key, index.columns.as_slice(), values) {
-            steps.tick();
-            if !given.contains(row) {
-                return Some(row);
-            }
-        }
-    }
-    None
-}
-
-// The row under a key, if it has these values in these columns.
-fn row_with<'a>(
+/// The row under a key, if it has these values in these columns.
+pub(crate) fn row_with<'a>(
     slab: &'a Slab<Tuple>,
     key: usize,
     columns: &[u16],

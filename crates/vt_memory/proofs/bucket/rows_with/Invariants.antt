@@ -1,6 +1,6 @@
 use Rattle.std.proofs.Common.{◌≡◌, ◌+◌, ◌++◌, length}
 use Rattle.vt_memory.specs.Inside.Indexed.{fitting, found_by}
-use Rattle.vt_memory.proofs.search.rows_with.Given as goal
+use Rattle.vt_memory.proofs.bucket.rows_with.Given as goal
 
 -- the rows so far, and those under the keys that are left
 abbrev pub invariant-loop-key : goal.invariant-loop-key

@@ -2,7 +2,7 @@ use Rattle.std.proofs.Common.{◌≡◌, ◌+◌, not, length}
 use Rattle.std.specs.List.{filter, find}
 use Rattle.vt_base.specs.Rows.{has_row}
 use Rattle.vt_memory.specs.Inside.Indexed.{fitting, found_by}
-use Rattle.vt_memory.proofs.search.first_beyond.Given as goal
+use Rattle.vt_memory.proofs.beyond.first_beyond.Given as goal
 
 -- no row so far was one that isn't given
 abbrev pub invariant-loop-key : goal.invariant-loop-key
