@@ -1,17 +1,21 @@
 -- The orders of entries are total, and entries that tie are one.
-use Rattle.std.specs.Prelude.{◌≡◌, Bool, true, false, nat_le, refl}
-use Rattle.std.proofs.Common.{sym, ap, ◌∙◌, arith, ◌≤◌}
+use Rattle.std.specs.Prelude.{◌≡◌, ℕ, ◌≤◌, true, false, nat_le, refl}
+use Rattle.std.proofs.Common.{arith}
+use Rattle.std.proofs.lemmas.Bool.Decides.{nat_tests}
 use Rattle.std.specs.declared.option.Option.TheVariants.{Some}
 use Rattle.std.specs.declared.cmp.Ordering.{Ordering}
 use Rattle.std.specs.declared.cmp.Ordering.TheVariants.{Less, Equal, Greater}
-use Rattle.std.specs.Ordering.{nat_cmp, ordering_then}
+use Rattle.std.specs.Ordering.{nat_cmp, ordering_then, is_gt}
 use Rattle.std.specs.Cmp.{IsTotalOrder}
 use Rattle.std.proofs.lemmas.Cmp.{nat_cmp_total, int_cmp_total, on_total, then_total}
-use Rattle.std.proofs.lemmas.Map.Lookups.{CmpEqualImpliesEq, exact_unsigned, exact_signed}
+use Rattle.std.proofs.lemmas.Map.Keys.{le_from_not_gt}
+use Rattle.std.proofs.lemmas.Map.Lookups.{exact_unsigned, exact_signed}
 use Rattle.vt_base.specs.Inside.OrderLaws.{IsTotalOrder-tuple_cmp}
 use Rattle.vt_base.proofs.OrderLemmas.{exact-tuple_cmp}
+use Rattle.vt_base.specs.declared.numbers.RuleId.{RuleId}
 use Rattle.vt_base.specs.declared.agenda.State.{State}
 use Rattle.vt_base.specs.declared.agenda.State.TheVariants.{Inactive, Created, Updated, Fired, Deleted}
+use Rattle.vt_resolve.specs.Choice.{is_passed}
 use Rattle.vt_resolve.specs.Entries.{by_match, by_priority, by_signed, by_age, state_place, signed}
 use Rattle.vt_resolve.specs.declared.entry.Entry.{Entry}
 
@@ -78,3 +82,17 @@ signed_exact a b e = match_exact a b (then_second _ _ e)
 
 pub age_exact : IsExact by_age
 age_exact a b e = priority_exact a b (then_second _ _ e)
+
+-- ---- the entries of the rules up to one
+
+not_gt : (a b : Ordering) → ordering_then a b ≡ Less → is_gt a ≡ false
+not_gt Less b e = refl
+not_gt Equal b e = refl
+not_gt Greater b e = cc
+
+no_later : (m n last : ℕ) → m ≤ n → nat_le n last ≡ true → nat_le m last ≡ true
+no_later m n last l e = grind (arith, nat_tests)
+
+-- with an entry they have all that are before it
+pub passed_closed : (last : RuleId) (x y : Entry) → by_match x y ≡ Less → is_passed (Some last) y ≡ true → is_passed (Some last) x ≡ true
+passed_closed last x y l e = no_later x.rule.0 y.rule.0 last.0 (le_from_not_gt x.rule.0 y.rule.0 (not_gt (nat_cmp x.rule.0 y.rule.0) _ l)) e
