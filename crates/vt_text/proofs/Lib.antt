@@ -9,3 +9,5 @@ mod CutLemmas
 mod SpellingLemmas
 mod LexemeLemmas
 mod ExpressionLemmas
+pub mod NameLemmas
+mod DepthLemmas

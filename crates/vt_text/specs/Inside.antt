@@ -2,3 +2,5 @@
 pub mod Scan
 pub mod Scanned
 pub mod Chains
+pub mod FactoredLeaf
+pub mod Levels

@@ -3,6 +3,8 @@ pub mod Lexicon
 pub mod Spelling
 pub mod Spans
 pub mod Lexemes
+pub mod Words
+pub mod ExpressionRules
 pub mod Operators
 pub mod Expression
 -- words of private clauses alone
