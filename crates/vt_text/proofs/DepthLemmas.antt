@@ -1,7 +1,7 @@
 -- The next lexeme decides, at each level of operators and at each depth.
 use Rattle.std.proofs.Common.{ℕ, zero, suc, ◌≡◌, ◌<◌, Bool, true, false, not, ◌&&◌, ◌||◌, List, [], ◌∷◌, ◌++◌, length, Ok, Err, refl, sym, ◌∙◌, ap}
 use Rattle.std.specs.List.{list_all}
-use Rattle.vt_facts.proofs.BoolLemmas.{or_left, or_right, and_left, and_right}
+use Rattle.vt_facts.proofs.BoolLemmas.{or_left, or_right, and_left, and_right, and-false}
 use Rattle.vt_grammar.specs.declared.symbol.Symbol.{Symbol}
 use Rattle.vt_grammar.specs.declared.symbol.Symbol.TheVariants as symbol
 use Rattle.vt_grammar.specs.declared.lexeme.Lexeme.{Lexeme}
@@ -75,10 +75,10 @@ any_of false false false p q f g h e = cc (e)
 -- ---- chains
 
 -- the signs of a level: the next lexeme decides, and nothing goes on behind one
-record IsSign (signs : Grammar Operator) : Type 0 where
-  decided : is_decided signs ≡ true
-  some : is_empty signs ≡ false
-  ends : (s : Symbol) → more signs s ≡ false
+pub record IsSign (signs : Grammar Operator) : Type 0 where
+  pub decided : is_decided signs ≡ true
+  pub some : is_empty signs ≡ false
+  pub ends : (s : Symbol) → more signs s ≡ false
 
 -- an operand: the next lexeme decides, it has a lexeme, and these alone go on where it could end
 pub record IsOperand (ends : Symbol → Bool) (a : Grammar ExprTree) : Type 0 where
@@ -216,6 +216,24 @@ unfolding leaf
 leaf_begins false = refl
 leaf_begins true = refl
 
+-- what goes on behind a choice, and behind a sequence, whose second has a lexeme
+more_alt : {A : Type 0} (a b : Grammar A) (f : Symbol → Bool) → is_empty b ≡ false → Within (more a) f → Within (more b) f → Within (more (alt a b)) f
+more_alt a b f n v w s h = go (more a s) (more b s) (is_empty b) (first a s) n (v s) (w s) h
+  where
+    go : (x y e z : Bool) → e ≡ false → (x ≡ true → f s ≡ true) → (y ≡ true → f s ≡ true) → ((x || y) || (e && z)) ≡ true → f s ≡ true
+    go true y e z n v w q = v refl
+    go false true e z n v w q = w refl
+    go false false true z n v w q = cc (n)
+    go false false false z n v w q = cc (q)
+
+more_seq : {A B : Type 0} (a : Grammar A) (b : Grammar B) (f : Symbol → Bool) → is_empty b ≡ false → Within (more b) f → Within (more (seq a b)) f
+more_seq a b f n w s h = go (more b s) (is_empty b) (more a s) n (w s) h
+  where
+    go : (x e z : Bool) → e ≡ false → (x ≡ true → f s ≡ true) → (x || (e && z)) ≡ true → f s ≡ true
+    go true e z n w q = w refl
+    go false true z n w q = cc (n)
+    go false false z n w q = cc (q)
+
 module _ (l u : Grammar ExprTree) (leaf_is : IsOperand leaf_ends l) (begins_otherwise : apart (first l) (λ s. same symbol.Minus s || (same symbol.Not s || same symbol.LeftParen s)) ≡ true) (k : IsOperand leaf_ends u) where
   behind : (s : Symbol) → is_decided (seq (token s) u) ≡ true
   behind s = both _ _ k.decided (apart_none (λ _. false) (first u) (λ _. refl))
@@ -226,21 +244,14 @@ module _ (l u : Grammar ExprTree) (leaf_is : IsOperand leaf_ends l) (begins_othe
       both _ _ (both _ _ (both _ true e.decided refl) (apart_within (more (disjunction u)) (same symbol.RightParen) disjunction_ends (same symbol.RightParen) e.goes_on (itself (same symbol.RightParen)) refl))
       (apart_none (λ _. false) (first (seq (disjunction u) (token symbol.RightParen))) (λ _. refl))
 
-  more_behind : (x y z : Bool) → y ≡ false → z ≡ false → (((x || y) || z)) ≡ true → x ≡ true
-  more_behind true y z e f h = refl
-  more_behind false true z e f h = cc (e)
-  more_behind false false true e f h = cc (f)
-  more_behind false false false e f h = cc (h)
+  enclosed_goes_on : Within (more (enclosed (disjunction u))) leaf_ends
+  enclosed_goes_on = more_seq (token symbol.LeftParen) (seq (disjunction u) (token symbol.RightParen)) leaf_ends (and-false (is_empty (disjunction u)))
+      (more_seq (disjunction u) (token symbol.RightParen) leaf_ends refl (λ s h. cc (h)))
 
   next_goes_on : Within (more (alt l (alt (negative u) (alt (negation u) (enclosed (disjunction u)))))) leaf_ends
-  next_goes_on s h = go (more l s) (more u s) (is_empty u) (first l s) (leaf_is.goes_on s) (k.goes_on s) k.some h
-    where
-      go : (x y e f : Bool) → (x ≡ true → leaf_ends s ≡ true) → (y ≡ true → leaf_ends s ≡ true) → e ≡ false
-          → ((x || (((y || (e && false)) || (((y || (e && false)) || false) || (false && same symbol.Not s))) || (false && same symbol.Minus s))) || (false && f)) ≡ true → leaf_ends s ≡ true
-      go true y e f g j n q = g refl
-      go false true e f g j n q = j refl
-      go false false true f g j n q = cc (n)
-      go false false false f g j n q = cc (q)
+  next_goes_on = more_alt l (alt (negative u) (alt (negation u) (enclosed (disjunction u)))) leaf_ends refl leaf_is.goes_on
+      (more_alt (negative u) (alt (negation u) (enclosed (disjunction u))) leaf_ends refl (more_seq (token symbol.Minus) u leaf_ends k.some k.goes_on)
+      (more_alt (negation u) (enclosed (disjunction u)) leaf_ends refl (more_seq (token symbol.Not) u leaf_ends k.some k.goes_on) enclosed_goes_on))
 
   next_known : IsOperand leaf_ends (alt l (alt (negative u) (alt (negation u) (enclosed (disjunction u)))))
   next_known = record {

@@ -10,4 +10,10 @@ mod SpellingLemmas
 mod LexemeLemmas
 mod ExpressionLemmas
 pub mod NameLemmas
+mod DigitLemmas
 mod DepthLemmas
+mod UnquotedLemmas
+mod QuotedLemmas
+mod KindLemmas
+mod TreeLemmas
+mod SpelledLemmas

@@ -4,3 +4,4 @@ pub mod Scanned
 pub mod Chains
 pub mod FactoredLeaf
 pub mod Levels
+pub mod Trees

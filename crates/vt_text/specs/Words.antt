@@ -35,9 +35,13 @@ any_word =
 abbrev pub feature_name : Grammar (List ℕ)
 feature_name = made (λ l. l.text) any_word
 
+-- a number, or the greatest one where it is more
+unfoldable pub limited : ℕ → ℕ
+limited n = if nat_le n 9223372036854775807 then n else 9223372036854775807
+
 -- the number that digits write; a token never writes more than the greatest one
 abbrev pub int_of : List ℕ → ℕ
-int_of digits = if nat_le (number_of digits) 9223372036854775807 then number_of digits else 9223372036854775807
+int_of digits = limited (number_of digits)
 
 -- NUMBER
 abbrev pub number : Grammar ℤ

@@ -45,7 +45,11 @@ fn attribute_rest(lexemes: &[Lexeme], name: Text) -> Result<(ExprTree, &[Lexeme]
 
 // What stands behind a name, and makes it a literal, an attribute or a variable.
 #[tactic(auto, unfolding(vt_grammar::specs::Reading::read))]
-fn name_rest(lexemes: &[Lexeme], name: Text, attributes: bool) -> Result<(ExprTree, &[Lexeme]), Stop>
+fn name_rest(
+    lexemes: &[Lexeme],
+    name: Text,
+    attributes: bool,
+) -> Result<(ExprTree, &[Lexeme]), Stop>
     ensures { Gives (λ x. (x.0, x.1.now)) result (reading (applied name (name_rest attributes)) lexemes.now) }
 {
     if is_next(lexemes, Symbol::DoubleColon) {

@@ -11,7 +11,7 @@ ghost use Rattle.vt_text.specs.Inside.FactoredLeaf.{leaf};
 ghost use Rattle.vt_text.specs.Inside.Levels.{sign_at, below, at};
 
 use crate::leaf::{begins_leaf, leaf};
-use crate::sign::{comparison_sign, compares, has_sign, sign_at};
+use crate::sign::{compares, comparison_sign, has_sign, sign_at};
 use crate::{ExprTree, OperandTree};
 use sqlite_items::{Boxed, Items};
 use std::alloc::Global;

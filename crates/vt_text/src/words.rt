@@ -1,8 +1,8 @@
 // Words, numbers and strings at the front of lexemes.
-ghost use Rattle.std.specs.Prelude.{◌≡◌, ◌+◌, ◌*◌, ◌-◌, ◌≤◌, ℕ, fold, pos};
+ghost use Rattle.std.specs.Prelude.{◌≡◌, ◌+◌, ◌*◌, ◌-◌, ◌≤◌, pos};
 ghost use Rattle.vt_grammar.specs.Reading.{read as reading, first};
 ghost use Rattle.vt_grammar.specs.Gives.{Gives};
-ghost use Rattle.vt_text.specs.Words.{identifier, any_word, feature_name, int_of, number, string};
+ghost use Rattle.vt_text.specs.Words.{identifier, any_word, feature_name, limited, int_of, number, string};
 
 use vt_base::Text;
 use vt_grammar::{Lexeme, Stop, Symbol, one};
@@ -56,14 +56,29 @@ pub fn feature_name(lexemes: &[Lexeme]) -> Result<(Text, &[Lexeme]), Stop>
     }
 }
 
+// A number with one more digit, or the greatest one where that is more.
+#[tactic(auto, unfolding(crate::specs::Words::limited))]
+fn with_digit(n: u64, b: u8) -> u64
+    requires { n ≤ 9223372036854775807 }
+    ensures value { result ≡ limited (n * 10 + (b - 48)) }
+    ensures bounded { result ≤ 9223372036854775807 }
+{
+    let next = n as u128 * 10 + b.saturating_sub(b'0') as u128;
+    if next <= MOST {
+        next as u64
+    } else {
+        MOST as u64
+    }
+}
+
 // The number that digits write. What a token writes is never cut down.
+#[tactic(auto, using(crate::proofs::DigitLemmas::limited_first))]
 fn int_of(digits: &str) -> i64
     ensures { result ≡ pos (int_of digits.now) }
 {
-    let mut n = 0u128;
+    let mut n = 0u64;
     for b in digits.as_bytes() {
-        let digit = b.saturating_sub(b'0');
-        n = (n * 10 + digit as u128).min(MOST);
+        n = with_digit(n, *b);
     }
     n as i64
 }
