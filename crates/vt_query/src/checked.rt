@@ -27,7 +27,12 @@ pub struct Checked {
 impl Model for Checked {
     ghost use Rattle.vt_query.specs.Checked.{Checked, IsChecked};
 
+    ghost use Rattle.std.specs.Coded.{codes};
+    ghost use Rattle.vt_text.specs.contracts.expr.Expr as expr;
+
     ghost Value = { Checked };
+
+    ghost coded = { Prim.hlevel (codes, expr.the_row.coded) };
 
     ghost view = { λ c. record { meta = c.known.meta; program = c.known.program; order = c.known.order; kinds = c.known.kinds } };
 
