@@ -8,3 +8,4 @@ pub mod Clashing
 pub mod Marked
 pub mod Unbound
 pub mod Patterns
+pub mod Findings
