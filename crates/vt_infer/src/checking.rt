@@ -41,7 +41,7 @@ fn paths(alloc: Global, program: &Program) -> Result<List<List<bool>>, InferFaul
 }
 
 /// The first fault of a program, or its call order and the kinds of its parameters.
-pub(crate) fn findings(
+pub(crate) fn examine(
     alloc: Global,
     meta: &Metamodel,
     program: &Program,
@@ -78,7 +78,7 @@ pub fn check(alloc: Global, meta: &Metamodel, program: Program) -> Result<Checke
     ensures program { IfOk result (λ checked. checked.program ≡ lean meta.now program) }
     ensures tables { IfOk result (λ checked. KeepsTables meta.now program checked.program) }
 {
-    let found = findings(alloc, meta, &program)?;
+    let found = examine(alloc, meta, &program)?;
     let kinds = all_first_kinds(alloc, found.known.as_slice())?;
     let lean = lean(alloc, meta, &program)?;
     Ok(Checked::new(meta, lean, found.order, kinds))

@@ -1,7 +1,7 @@
 //! Small programs with each fault, and what is dropped of programs without one.
 mod programs;
 
-use crate::checking::findings;
+use crate::checking::examine;
 use crate::lean::lean;
 use crate::{InferFault, check};
 use programs::{library, program};
@@ -14,7 +14,7 @@ use vt_query::Program;
 fn fault_of(alloc: Global, text: &str) -> Result<(u8, u16), Fail> {
     let program = program(alloc, text)?;
     let library = library(alloc)?;
-    match findings(alloc, &library, &program) {
+    match examine(alloc, &library, &program) {
         Ok(_) => Ok((0, 0)),
         Err(InferFault::Recursive { pattern }) => Ok((1, pattern.0)),
         Err(InferFault::KindClash { pattern }) => Ok((2, pattern.0)),
@@ -133,7 +133,7 @@ fn an_unbound_variable_is_found(rt: HostRuntime) -> Result<(), Fail> {
         ("1 1: sum 0 1 _ #\n2 2: pages 0 1", (0, 0)),
         ("2 2: sum 1 1 0 #; Book 0\n2 2: pages 0 1", (0, 0)),
         ("2 2: sum 1 1 0 #\n2 2: pages 0 1", (3, 0)),
-        ("1 1: sum 0 1 0 #\n2 2: pages 0 1 | same 0 1; same 0 =1", (2, 1)),
+        ("1 1: sum 0 1 0 #\n2 2: same 0 1; same 0 =1", (3, 0)),
         // Expressions.
         ("1 1: eval 0 one", (0, 0)),
         ("2 3: pages 0 2; eval 1 plus 2", (0, 0)),
@@ -186,7 +186,7 @@ fn patterns_stand_after_those_that_they_call(rt: HostRuntime) -> Result<(), Fail
         "1 1: find 1 0; find 3 0\n1 1: find 2 0\n2 2: pages 0 1\n1 1: find 1 0",
     )?;
     let library = library(rt.alloc())?;
-    let found = match findings(rt.alloc(), &library, &program) {
+    let found = match examine(rt.alloc(), &library, &program) {
         Ok(found) => found,
         Err(_) => return Err(Fail::new("a fault")),
     };
