@@ -1,1 +1,2 @@
 mod ExpressionLemmas
+mod KindLemmas

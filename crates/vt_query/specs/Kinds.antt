@@ -1,5 +1,5 @@
 -- The kinds that the variables of a body get.
-use Rattle.std.specs.Prelude.{◌≡◌, ℕ, suc, ◌<◌, Bool, true, List, [], ◌∷◌, ◌++◌, length, slice_get, Contains, Option, Some, None, option_map, IsSomeAnd}
+use Rattle.std.specs.Prelude.{◌≡◌, ℕ, ◌+◌, ◌<◌, Bool, true, List, [], ◌∷◌, ◌++◌, length, slice_get, Contains, Option, Some, None, option_map, IsSomeAnd}
 use Rattle.vt_base.specs.declared.numbers.PatternId.{PatternId}
 use Rattle.vt_base.specs.declared.value.Kind.{Kind}
 use Rattle.vt_base.specs.declared.value.Kind.TheVariants as kind
@@ -44,7 +44,7 @@ value_place (Some k) t = (t, Fixed k) ∷ []
 -- the places of a call, from this parameter of the pattern on
 abbrev pub argument_places : PatternId → ℕ → List Term → List (Term × Origin)
 argument_places p j [] = []
-argument_places p j (t ∷ args) = (t, Parameter p j) ∷ argument_places p (suc j) args
+argument_places p j (t ∷ args) = (t, Parameter p j) ∷ argument_places p (j + 1) args
 
 -- an argument without a term is no place
 abbrev pub asked_place : PatternId → ℕ → Arg → List (Term × Origin)
@@ -53,7 +53,7 @@ asked_place p j a = []
 
 abbrev pub asked_places : PatternId → ℕ → List Arg → List (Term × Origin)
 asked_places p j [] = []
-asked_places p j (a ∷ args) = asked_place p j a ++ asked_places p (suc j) args
+asked_places p j (a ∷ args) = asked_place p j a ++ asked_places p (j + 1) args
 
 -- the kind of an attribute's values
 abbrev pub attribute_kind : Metamodel → ℕ → Option Kind

@@ -62,7 +62,7 @@ rank row = count_by (λ b. b) row
 -- the patterns from a number on that have the rank
 abbrev pub ranked_from : ℕ → ℕ → List ℕ → List PatternId
 ranked_from r i [] = []
-ranked_from r i (s ∷ ranks) = if nat_eq s r then (record { 0 = i }) ∷ ranked_from r (suc i) ranks else ranked_from r (suc i) ranks
+ranked_from r i (s ∷ ranks) = if nat_eq s r then (record { 0 = i }) ∷ ranked_from r (i + 1) ranks else ranked_from r (i + 1) ranks
 
 -- the patterns whose rank is below a number, by their ranks
 abbrev pub ranked_below : ℕ → List ℕ → List PatternId

@@ -1,5 +1,5 @@
 -- Whether the kinds that were found in a body clash.
-use Rattle.std.specs.Prelude.{ℕ, suc, ◌&&◌, ◌||◌, Bool, true, false, not, List, [], ◌∷◌, ◌==◌, length}
+use Rattle.std.specs.Prelude.{ℕ, ◌+◌, ◌&&◌, ◌||◌, Bool, true, false, not, List, [], ◌∷◌, ◌==◌, length}
 use Rattle.std.specs.List.{list_any, list_all}
 use Rattle.vt_base.specs.declared.value.Kind.{Kind}
 use Rattle.vt_base.specs.declared.value.Kind.TheVariants as kind
@@ -45,7 +45,7 @@ is_bad_column known p j a = false
 
 abbrev pub has_bad_column : List (List (List Kind)) → ℕ → ℕ → List Arg → Bool
 has_bad_column known p j [] = false
-has_bad_column known p j (a ∷ args) = is_bad_column known p j a || has_bad_column known p (suc j) args
+has_bad_column known p j (a ∷ args) = is_bad_column known p j a || has_bad_column known p (j + 1) args
 
 -- all variables of an expression have kinds, and one is an object or the expression has no kind
 abbrev pub is_known : List (List Kind) → ℕ → Bool

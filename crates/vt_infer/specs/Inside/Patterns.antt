@@ -1,5 +1,5 @@
 -- The kinds of the parameters of patterns, and which patterns have kinds that clash.
-use Rattle.std.specs.Prelude.{◌≡◌, ◌↔◌, ℕ, suc, ◌<◌, ◌||◌, Bool, true, false, List, [], ◌∷◌, length, map, slice_get, unwrap_or, Some}
+use Rattle.std.specs.Prelude.{◌≡◌, ◌↔◌, ℕ, ◌+◌, ◌<◌, ◌||◌, Bool, true, false, List, [], ◌∷◌, length, map, slice_get, unwrap_or, Some}
 use Rattle.std.specs.List.{AllZip, list_any, filter_map}
 use Rattle.vt_base.specs.declared.numbers.PatternId.{PatternId}
 use Rattle.vt_base.specs.declared.value.Kind.{Kind}
@@ -20,7 +20,7 @@ AreTables meta known pattern bodies tables = AllZip (IsAllOf meta known pattern)
 -- the kinds of a body's first variables, added to those of parameters
 abbrev pub with_table : Found → ℕ → List (List Kind) → Found
 with_table found j [] = found
-with_table found j (row ∷ rows) = with_table (with_kinds found j row) (suc j) rows
+with_table found j (row ∷ rows) = with_table (with_kinds found j row) (j + 1) rows
 
 abbrev pub with_tables : Found → List (List (List Kind)) → Found
 with_tables found [] = found

@@ -1,5 +1,5 @@
 -- The places of constraints, each with the kinds that are found for it, and what these give.
-use Rattle.std.specs.Prelude.{◌≡◌, ℕ, zero, suc, List, [], ◌∷◌, map, slice_get, Option, Some, None, option_and_then, unwrap_or}
+use Rattle.std.specs.Prelude.{◌≡◌, ℕ, zero, suc, ◌+◌, List, [], ◌∷◌, map, slice_get, Option, Some, None, option_and_then, unwrap_or}
 use Rattle.vt_base.specs.declared.value.Kind.{Kind}
 use Rattle.vt_model.specs.Metamodel.{Metamodel}
 use Rattle.vt_model.specs.Fits.{kind_of}
@@ -74,7 +74,7 @@ with_type found x (Some type) = with_kind found x (type_kind type)
 
 abbrev pub with_types : Found → ℕ → List Param → Found
 with_types found x [] = found
-with_types found x (p ∷ params) = with_types (with_type found x p.ty) (suc x) params
+with_types found x (p ∷ params) = with_types (with_type found x p.ty) (x + 1) params
 
 -- so many rounds after the declared types lead to it, and one more adds nothing
 pub record IsAllOf (meta : Metamodel) (known : List (List (List Kind))) (pattern : Pattern) (body : Body) (kinds : List (List Kind)) : Type 0 where
