@@ -1,0 +1,9 @@
+mod ListLemmas
+mod GivenLemmas
+mod FindLemmas
+mod PlaceLemmas
+mod ListingLemmas
+mod DueLemmas
+mod HistoryLemmas
+mod EventLemmas
+mod EnabledLemmas
