@@ -7,3 +7,7 @@ mod DueLemmas
 mod HistoryLemmas
 mod EventLemmas
 mod EnabledLemmas
+mod JobLemmas
+mod TakeLemmas
+mod TriggerLemmas
+mod AgendaLemmas

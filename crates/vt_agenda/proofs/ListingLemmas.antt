@@ -136,6 +136,17 @@ listing-pushed trigger fired e due new rest row later first all t b is split cop
     subst (λ ds. IsListing trigger fired e ds later first all) (sym (grown ∙ ap (λ d. due ++ d ∷ []) same))
     (listing-step trigger fired e due row later first all (subst (λ xs. IsListing trigger fired e due xs first all) split is))
 
+pub begin-listing : (trigger : Trigger) (fired : Option (RuleId × List Value)) (e : Event) (due : List Due) (walk rows : List (List Value))
+    → AllOnce due → walk ≡ rows → Ascends rows → ((m : List Value) → has_row rows m ≡ true → due_of due trigger.rule m ≡ None)
+    → IsListing trigger fired e due walk due rows
+begin-listing trigger fired e due walk rows once same ascends fresh = subst (λ xs. IsListing trigger fired e due xs due rows) (sym same) (record {
+  of = AddsOf-none trigger due;
+  once = once;
+  ascends = ascends;
+  fresh = fresh;
+  same = λ s m. refl;
+})
+
 -- ---- FIRE alone
 
 pub said : (number r : RuleId) (t m : List Value) → fires (Some (number, t)) r m ≡ true → (number ≡ r) × (t ≡ m)
@@ -177,6 +188,9 @@ pub fired-once : (trigger : Trigger) (old new : List Due) (tuple t : List Value)
     → t ≡ tuple → new ≡ old ++ fire_one trigger t ∷ [] → AllOnce new
 fired-once trigger old new tuple t once fresh copied grown =
     subst AllOnce (sym (grown ∙ ap (λ u. old ++ fire_one trigger u ∷ []) copied)) (AllOnce-added old (fire_one trigger tuple) once fresh)
+
+pub fired-of : (trigger : Trigger) (old new : List Due) (t : List Value) → new ≡ old ++ fire_one trigger t ∷ [] → AddsOf trigger old new
+fired-of trigger old new t grown = subst (AddsOf trigger old) (sym grown) (AddsOf-one trigger old (fire_one trigger t) refl)
 
 -- what fired is said to have
 pub said_here : (fired : Option (RuleId × List Value)) (number r : RuleId) (t : List Value) → fired ≡ Some (number, t) → number.0 ≡ r.0 → fires fired r t ≡ true

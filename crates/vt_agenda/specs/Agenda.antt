@@ -1,5 +1,5 @@
 -- Agendas: what one is seen as, the histories that it stands for, and when it is ready for a report.
-use Rattle.std.specs.Prelude.{◌≡◌, ◌==◌, ◌≤◌, ℕ, false, List, [], ◌∷◌, find, filter_map, length, Option, Some, None, Contains, if◌then◌else◌, option_map}
+use Rattle.std.specs.Prelude.{◌≡◌, ◌==◌, ◌≤◌, ℕ, Bool, false, List, [], ◌∷◌, find, filter_map, length, Option, Some, None, Contains, if◌then◌else◌, option_map}
 use Rattle.std.specs.List.{list_any}
 use Rattle.std.specs.List.Sorted.{IsStrictlySortedBy}
 use Rattle.std.specs.Ordering.{nat_cmp}
@@ -69,16 +69,17 @@ pub record StandsFor {R : Type 0} (agenda : Kept R) (box : Resolving) (h : List 
   pub enabled : AreEnabled agenda.triggers h box.held
 
 -- the rule that fired last: the one that fires, where it is one of these, or else as before
-abbrev pub last_after : List Trigger → Option (RuleId × List Value) → Option ℕ → Option ℕ
+abbrev pub last_after : List Trigger → Option (RuleId × List Value) → Option RuleId → Option RuleId
 last_after triggers None last = last
 last_after triggers (Some fired) last =
-    if list_any (λ (t : Trigger). t.rule.0 == fired.0.0) triggers then Some fired.0.0 else last
+    if list_any (λ (t : Trigger). t.rule.0 == fired.0.0) triggers then Some fired.0 else last
 
 -- ---- readiness
 
 -- what is due to a rule and a tuple, where something is
 abbrev pub due_of : List Due → RuleId → List Value → Option Due
-due_of due rule m = find (λ (d : Due). is_of d.trigger.rule d.tuple rule m) due
+due_of [] rule m = None
+due_of (d ∷ rest) rule m = if is_of d.trigger.rule d.tuple rule m then Some d else due_of rest rule m
 
 -- nothing is due twice to a rule and a tuple
 abbrev pub AllOnce : List Due → Type 0

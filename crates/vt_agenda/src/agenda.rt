@@ -1,5 +1,5 @@
 // An agenda: the activations of its rules, and the resolver that picks among them.
-ghost use Rattle.std.specs.Prelude.{◌≡◌, ◌<◌, ◌∷◌, [], IfOk, IfErr, OnOk, OnErr, None, List, length, map};
+ghost use Rattle.std.specs.Prelude.{◌≡◌, ◌<◌, ◌^◌, ◌∷◌, [], IfOk, IfErr, OnOk, OnErr, None, List, length, map};
 ghost use Rattle.std.specs.Option.{option_copied};
 ghost use Rattle.vt_model.specs.Metamodel.{Metamodel};
 ghost use Rattle.vt_query.specs.declared.program.Program.{Program};
@@ -45,11 +45,11 @@ impl<R> Model for AgendaOf<R> {
     ghost coded = { kept_code R.code };
 
     ghost view = { λ a. record {
-        triggers = a.triggers;
-        active = a.states.items;
-        spare = a.states.spare;
-        due = a.due;
-        resolver = a.resolver;
+      triggers = a.triggers;
+      active = a.states.items;
+      spare = a.states.spare;
+      due = a.due;
+      resolver = a.resolver;
     } };
 
     ghost invariant = { λ a. Rise a.triggers × AreOf a.triggers a.states.items };
@@ -60,7 +60,12 @@ pub type Agenda = AgendaOf<Box<dyn Resolver>>;
 
 impl AgendaOf<Box<dyn Resolver>> {
     /// The agenda of this number before the first step, with the rules on it. It clears the box.
-    pub fn new(alloc: Global, rules: &Rules, which: u16, resolver: Box<dyn Resolver>) -> Result<Agenda, NoMemory>
+    pub fn new(
+        alloc: Global,
+        rules: &Rules,
+        which: u16,
+        resolver: Box<dyn Resolver>,
+    ) -> Result<Agenda, NoMemory>
         requires few { length rules.now.rules < 2 ^ 16 }
         ensures triggers { IfOk result (λ a. a.triggers ≡ triggers_of rules.now which) }
         ensures holds { IfOk result (λ a. Holds a (seen a.resolver)) }
@@ -112,7 +117,13 @@ impl AgendaOf<Box<dyn Resolver>> {
         ensures last { (seen self.new.resolver).last ≡ last_after self.old.triggers report.now.fired (seen self.old.resolver).last }
     {
         let due = std::mem::replace(&mut self.due, List::new(self.alloc));
-        take_all(&mut self.states, &mut self.resolver, due.into_vec(), report.step);
+        take_all(
+            &mut self.states,
+            &mut self.resolver,
+            due.into_vec(),
+            report.step,
+        );
+        self.states.ascend();
         tell_fired(&mut self.resolver, self.triggers.as_slice(), &report.fired)
     }
 
@@ -146,13 +157,6 @@ impl AgendaOf<Box<dyn Resolver>> {
         }
         self.resolver = next;
         Ok(())
-    }
-
-    /// The state of a rule with a tuple. It is INACTIVE where the rule isn't one of the agenda's.
-    pub fn state(&self, rule: RuleId, tuple: &Tuple) -> State
-        ensures { result ≡ (kept self.now.active rule tuple.now).state }
-    {
-        self.states.state(rule, tuple)
     }
 
     /// The activations that aren't INACTIVE, by rule and tuple.

@@ -45,12 +45,7 @@ fn take(states: &mut States, held: &mut Box<dyn Resolver>, due: Due, step: u64)
 }
 
 // Each activation takes what is due to it.
-pub(crate) fn take_all(
-    states: &mut States,
-    held: &mut Box<dyn Resolver>,
-    due: Vec<Due>,
-    step: u64,
-)
+pub(crate) fn take_all(states: &mut States, held: &mut Box<dyn Resolver>, due: Vec<Due>, step: u64)
     requires once { AllOnce due.items }
     requires room { length due.items ≤ states.old.spare }
     requires box_room { length due.items ≤ (seen held.old).spare }

@@ -1,5 +1,5 @@
 // Triggers: what an agenda needs of a rule.
-ghost use Rattle.std.specs.Prelude.{◌≡◌, ◌<◌, IfOk, length};
+ghost use Rattle.std.specs.Prelude.{◌≡◌, ◌<◌, ◌^◌, IfOk, length};
 ghost use Rattle.vt_agenda.specs.Trigger.{trigger_of, triggers_of, has_job};
 ghost use Rattle.vt_agenda.specs.Activation.{after};
 
