@@ -56,9 +56,9 @@ pub StandsFor-step : {R : Type 0} (old new : Kept R) (old_box new_box : Resolvin
     → StandsFor old old_box earlier → StandsFor new new_box (step ∷ earlier)
 StandsFor-step old new old_box new_box report ready rise are same took ascend holds meta program earlier step history reports stands =
     let each : (t : Trigger) → Contains old.triggers t → (m : List Value) → kept new.active t.rule m ≡ activation t m (step ∷ earlier) =
-        λ t of m. activation-step t m (at old.active t.rule m) (at new.active t.rule m) (due_of old.due t.rule m) report step earlier
-        (ready.each t of m) reports.number reports.fired (reported-event step earlier report reports (tables-stay meta program step earlier history) t.pattern m)
-        (stands.each t of m) (took t.rule m) in
+    λ t of m. activation-step t m (at old.active t.rule m) (at new.active t.rule m) (due_of old.due t.rule m) report step earlier
+    (ready.each t of m) reports.number reports.fired (reported-event step earlier report reports (tables-stay meta program step earlier history) t.pattern m)
+    (stands.each t of m) (took t.rule m) in
     record {
       each = λ t of m. each t (subst (λ ts. Contains ts t) same of) m;
       enabled = subst (λ ts. AreEnabled ts (step ∷ earlier) new_box.held) (sym same)

@@ -153,8 +153,8 @@ IsNet-Reports step earlier report reports = record {
       record {
         removed = λ m r. to_false (has_row e.added.items m) (λ a. false≢true (sym ((are.created.each m).0 a).0 ∙ ((are.deleted.each m).0 r).1));
         updated = λ m u. (
-            to_false (has_row e.added.items m) (λ a. false≢true (sym ((are.created.each m).0 a).0 ∙ ((are.updated.each m).0 u).0)),
-            to_false (has_row e.removed.items m) (λ r. false≢true (sym ((are.deleted.each m).0 r).0 ∙ ((are.updated.each m).0 u).1)),
+          to_false (has_row e.added.items m) (λ a. false≢true (sym ((are.created.each m).0 a).0 ∙ ((are.updated.each m).0 u).0)),
+          to_false (has_row e.removed.items m) (λ r. false≢true (sym ((are.deleted.each m).0 r).0 ∙ ((are.updated.each m).0 u).1)),
         );
       };
 }
@@ -198,5 +198,5 @@ tables-stay meta program step (before ∷ earlier) history =
     let P : Step → Type 0 = λ s. StandFor meta s.model program s.tables in
     let first : length step.tables ≡ length program.patterns = (All-contains P (step ∷ before ∷ earlier) step history (Contains-head step (before ∷ earlier))).count in
     let second : length before.tables ≡ length program.patterns =
-        (All-contains P (step ∷ before ∷ earlier) before history (Contains-behind step before (before ∷ earlier) (Contains-head before earlier))).count in
+    (All-contains P (step ∷ before ∷ earlier) before history (Contains-behind step before (before ∷ earlier) (Contains-head before earlier))).count in
     omega arith

@@ -1,5 +1,5 @@
 -- What a search finds in an ordered set after an edit.
-use Rattle.std.proofs.Common.{◌≡◌, Bool, true, false, not, cond, ◌||◌, ◌&&◌, Option, Some, None, List, [], ◌∷◌, ◌++◌, refl, sym, ap, ◌∙◌, inl, inr, ◌⊎◌}
+use Rattle.std.proofs.Common.{◌≡◌, Bool, true, false, not, cond, ◌||◌, ◌&&◌, Option, Some, None, List, [], ◌∷◌, ◌++◌, refl, sym, ap, ◌∙◌, inl, inr, ◌⊎◌, subst}
 use Rattle.std.specs.Prelude.{find, filter, Contains, if◌then◌else◌}
 use Rattle.std.proofs.lemmas.Bool.{false≢true}
 use Rattle.std.specs.declared.cmp.Ordering.{Ordering}
@@ -12,9 +12,10 @@ use Rattle.std.specs.Ordering.{eq_by_cmp, is_eq, is_lt, ordering_reverse}
 use Rattle.std.proofs.lemmas.Cmp.{tied_back, tied_itself}
 use Rattle.std.proofs.lemmas.List.Folds.{find-append}
 use Rattle.std.proofs.lemmas.Map.Views.{any-filter_same}
-use Rattle.vt_facts.proofs.MemberLemmas.{Contains-head, Contains-behind, Contains-nil, Contains-cons_cases}
+use Rattle.vt_facts.proofs.MemberLemmas.{Contains-head, Contains-behind, Contains-nil, Contains-cons_cases, Contains-from_filter}
 use Rattle.vt_facts.proofs.RisingLemmas.{first_below, rest_rises}
 use Rattle.vt_sorted.specs.Ascending.{has, items_below, items_from, with_item, without_item}
+use Rattle.vt_sorted.proofs.AscendingLemmas.{sorted-filter}
 use Rattle.vt_agenda.proofs.ListLemmas.{to_false, filter-every, filter-none}
 
 -- ---- after a filter
@@ -140,3 +141,30 @@ module _ {K : Type 0} (R : K → K → Ordering) (o : IsTotalOrder R) where
       by rest (inl is) = ap (λ b. cond b (Some y) (find (eq_by_cmp R x) xs)) (ap (λ z. is_eq (R x z)) is ∙ ap is_eq (tied_itself o x)) ∙ ap Some is
       by rest (inr later) =
           ap (λ b. cond b (Some y) (find (eq_by_cmp R x) xs)) (eq_swap x y ∙ ap is_eq (first_below R y xs s x later)) ∙ rest later
+
+  -- what is found is not below the item
+  pub find-items_from : (xs : List K) (k : K) → find (eq_by_cmp R k) (items_from R xs k) ≡ find (eq_by_cmp R k) xs
+  find-items_from xs k = find-filter (eq_by_cmp R k) (λ x. not (is_lt (R x k))) (λ x t. ap (λ r. not (is_lt r)) (tied_back o k x ((Equal-is (R k x)).0 t))) xs
+
+  -- nothing is found above the item
+  find-above : (xs : List K) (k : K) → ((x : K) → Contains xs x → R k x ≡ Less) → find (eq_by_cmp R k) xs ≡ None
+  find-above [] k less = refl
+  find-above (x ∷ xs) k less =
+      ap (λ b. cond b (Some x) (find (eq_by_cmp R k) xs)) (ap is_eq (less x (Contains-head x xs)))
+      ∙ find-above xs k (λ y there. less y (Contains-behind x y xs there))
+
+  -- of what is not below the item only the first may be it
+  pub find-first : (xs : List K) (k y : K) (ys : List K) → IsStrictlySortedBy R xs → items_from R xs k ≡ y ∷ ys
+      → find (eq_by_cmp R k) (y ∷ ys) ≡ (if is_eq (R k y) then Some y else None)
+  find-first xs k y ys s e = by (R k y) refl
+    where
+      sorted : IsStrictlySortedBy R (y ∷ ys)
+      sorted = subst (IsStrictlySortedBy R) e (sorted-filter R (λ x. not (is_lt (R x k))) xs s)
+
+      passes : not (is_lt (R y k)) ≡ true
+      passes = (Contains-from_filter (λ x. not (is_lt (R x k))) xs y (subst (λ zs. Contains zs y) (sym e) (Contains-head y ys))).1
+
+      by : (r : Ordering) → R k y ≡ r → cond (is_eq (R k y)) (Some y) (find (eq_by_cmp R k) ys) ≡ (if is_eq (R k y) then Some y else None)
+      by Less is = rw is (find-above ys k (λ x there. o.trans k y x is (first_below R y ys sorted x there)))
+      by Equal is = rw is refl
+      by Greater is = absurd (false≢true (ap (λ r. not (is_lt r)) (sym (o.antisymm y k ∙ ap ordering_reverse is)) ∙ passes))

@@ -50,7 +50,7 @@ taken-after trigger step fired e None found m h d is =
     is ∙ sym (after-nothing trigger step m h) ∙ ap (λ f. after trigger step f None (activation trigger m h)) (sym d.0) ∙ ap (λ o. after trigger step fired o (activation trigger m h)) (sym d.1)
 taken-after trigger step fired e (Some due) found m h d is =
     activation_of-placed (active_of due.trigger due.tuple (after due.trigger step due.fired due.event (activation_of found)))
-        (after-settled due.trigger step due.fired due.event (activation_of found))
+    (after-settled due.trigger step due.fired due.event (activation_of found))
     ∙ ap (λ t. after t step due.fired due.event (activation_of found)) d.0
     ∙ ap (λ f. after trigger step f due.event (activation_of found)) d.1
     ∙ ap (λ o. after trigger step fired o (activation_of found)) d.2

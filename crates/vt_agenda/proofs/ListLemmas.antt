@@ -27,12 +27,12 @@ filter-every p (x ∷ xs) all =
 -- a test that fails fails at each item
 pub none-fails : {X : Type 0} (p : X → Bool) (xs : List X) (x : X) → list_any p xs ≡ false → Contains xs x → p x ≡ false
 none-fails p [] x none there = absurd (Contains-nil x there)
-none-fails p (y ∷ xs) x none there = by (p y) refl (Contains-cons_cases y x xs there)
+none-fails p (y ∷ xs) x none there = by (none-fails p xs x) (p y) refl (Contains-cons_cases y x xs there)
   where
-    by : (b : Bool) → p y ≡ b → (y ≡ x) ⊎ Contains xs x → p x ≡ false
-    by true e h = absurd (false≢true (sym none ∙ ap (λ b. b || list_any p xs) e))
-    by false e (inl is) = ap p (sym is) ∙ e
-    by false e (inr later) = none-fails p xs x (sym (ap (λ b. b || list_any p xs) e) ∙ none) later
+    by : (list_any p xs ≡ false → Contains xs x → p x ≡ false) → (b : Bool) → p y ≡ b → (y ≡ x) ⊎ Contains xs x → p x ≡ false
+    by rest true e h = absurd (false≢true (sym none ∙ ap (λ b. b || list_any p xs) e))
+    by rest false e (inl is) = ap p (sym is) ∙ e
+    by rest false e (inr later) = rest (sym (ap (λ b. b || list_any p xs) e) ∙ none) later
 
 -- where no item passes
 pub all-none : {X : Type 0} (p : X → Bool) (xs : List X) → ((x : X) → Contains xs x → p x ≡ false) → list_any p xs ≡ false
@@ -50,7 +50,7 @@ filter-none p (x ∷ xs) all =
 -- what a test finds
 pub any-found : {X : Type 0} (p : X → Bool) (xs : List X) → list_any p xs ≡ true → (x : X) × Contains xs x × (p x ≡ true)
 any-found p [] e = absurd (false≢true e)
-any-found p (y ∷ xs) e = by (any-found p xs) (p y) refl e
+any-found {X = X} p (y ∷ xs) e = by (any-found p xs) (p y) refl e
   where
     by : (list_any p xs ≡ true → (x : X) × Contains xs x × (p x ≡ true)) → (b : Bool) → p y ≡ b → (b || list_any p xs) ≡ true
         → (x : X) × Contains (y ∷ xs) x × (p x ≡ true)

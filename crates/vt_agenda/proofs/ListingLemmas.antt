@@ -344,9 +344,9 @@ given-rule report due new trigger later all rise is of once grown =
     let there : Contains all trigger = is.among trigger (Contains-head trigger later) in
     let head : IsGiven report trigger new = head_given report due new trigger (is.fresh trigger (Contains-head trigger later)) (grown trigger.rule) in
     let apart : (r : Trigger) → Contains later r → eq_by_cmp nat_cmp trigger.rule.0 r.rule.0 ≡ false =
-        λ r h. ap is_eq (rising.first_below (λ (x y : Trigger). nat_cmp x.rule.0 y.rule.0) trigger later is.rise r h) in
+    λ r h. ap is_eq (rising.first_below (λ (x y : Trigger). nat_cmp x.rule.0 y.rule.0) trigger later is.rise r h) in
     record {
-      of = λ d h. elim (of d h) [ | inl old ↦ is.of d old | inr same ↦ subst (Contains all) (sym same) there ];
+      of = λ d h. elim (of d h) [ inl old ↦ is.of d old | inr same ↦ subst (Contains all) (sym same) there ];
       once = once;
       rise = rising.rest_rises _ trigger later is.rise;
       among = λ r h. is.among r (Contains-behind trigger r later h);

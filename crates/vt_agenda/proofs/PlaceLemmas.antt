@@ -21,7 +21,7 @@ use Rattle.vt_base.specs.declared.agenda.State.{State}
 use Rattle.vt_base.specs.declared.agenda.State.TheVariants.{Inactive, Created, Updated, Fired, Deleted}
 use Rattle.vt_base.specs.declared.numbers.RuleId.{RuleId}
 use Rattle.vt_base.specs.declared.value.Value.{Value}
-use Rattle.vt_sorted.specs.Ascending.{has, items_below, items_from, with_item, without_item}
+use Rattle.vt_sorted.specs.Ascending.{has, items_after, items_below, items_from, with_item, without_item}
 use Rattle.vt_resolve.specs.Choice.{holds_match}
 use Rattle.vt_resolve.specs.Entries.{by_activation, by_match}
 use Rattle.vt_resolve.specs.Inside.EntryLaws.{match_total}
@@ -29,12 +29,12 @@ use Rattle.vt_resolve.specs.declared.entry.Entry.{Entry}
 use Rattle.vt_agenda.specs.Activation.{inactive}
 use Rattle.vt_agenda.specs.Agenda.{at, activation_of, entry_of, entries_of}
 use Rattle.vt_agenda.specs.Event.{is_of}
-use Rattle.vt_agenda.specs.Inside.Order.{active_cmp, IsTotalOrder-active_cmp}
-use Rattle.vt_agenda.specs.Inside.Taking.{in_state, placed, entry_at, let_go, take_up}
+use Rattle.vt_agenda.specs.Inside.Order.{active_cmp, IsTotalOrder-active_cmp, place}
+use Rattle.vt_agenda.specs.Inside.Taking.{in_state, placed, first_at, entry_at, let_go, take_up}
 use Rattle.vt_agenda.specs.declared.active.Active.{Active}
 use Rattle.vt_agenda.proofs.ListLemmas.{to_false, filter-agree, filter-every, filter-none, none-fails, all-none}
 use Rattle.vt_agenda.proofs.GivenLemmas.{filter_map-filter, Contains-from_filter_map, Contains-filter_map}
-use Rattle.vt_agenda.proofs.FindLemmas.{eq_swap, find-without_item, find-with_item, has-without_item, halves, find-member}
+use Rattle.vt_agenda.proofs.FindLemmas.{eq_swap, find-without_item, find-with_item, find-items_from, find-first, has-without_item, halves, find-member}
 
 abbrev numbered : ℕ → RuleId
 numbered n = record { 0 = n }
@@ -47,9 +47,6 @@ pub of-tuple : (r s : RuleId) (t m : List Value) → is_of r t s m ≡ true → 
 of-tuple r s t m e = tells_apart exact-tuple_cmp t m (and_right (eq_by_cmp nat_cmp r.0 s.0) (eq_by_cmp tuple_cmp t m) e)
 
 -- ---- the map
-
-abbrev place : RuleId → List Value → Active
-place rule m = record { rule = rule; priority = pos 0; tuple = m; activation = inactive }
 
 tied : (q k : Active) → is_of q.rule q.tuple k.rule k.tuple ≡ is_eq (active_cmp q k)
 tied q k = tied_then (nat_cmp q.rule.0 k.rule.0) (tuple_cmp q.tuple k.tuple)
@@ -65,6 +62,24 @@ at-place xs rule m a e =
 
 pub at-member : (xs : List Active) (a : Active) → IsStrictlySortedBy active_cmp xs → Contains xs a → at xs a.rule a.tuple ≡ Some a
 at-member xs a s there = at-find xs a ∙ find-member active_cmp IsTotalOrder-active_cmp xs a s there
+
+-- the first that isn't below a rule and a tuple tells what is kept of them
+pub at-first : (xs : List Active) (rule : RuleId) (m : List Value) → IsStrictlySortedBy active_cmp xs
+    → first_at (items_after (λ a. is_lt (active_cmp a (place rule m))) xs) rule m ≡ at xs rule m
+at-first xs rule m s = by (items_after (λ a. is_lt (active_cmp a k)) xs) refl
+  where
+    k : Active
+    k = place rule m
+
+    whole : find (eq_by_cmp active_cmp k) (items_from active_cmp xs k) ≡ at xs rule m
+    whole = find-items_from active_cmp IsTotalOrder-active_cmp xs k ∙ sym (at-find xs k)
+
+    by : (ys : List Active) → items_from active_cmp xs k ≡ ys → first_at ys rule m ≡ at xs rule m
+    by [] e = sym (ap (find (eq_by_cmp active_cmp k)) e) ∙ whole
+    by (y ∷ ys) e =
+        ap (λ b. if b then Some y else None) (tied k y)
+        ∙ sym (find-first active_cmp IsTotalOrder-active_cmp xs k y ys s e)
+        ∙ sym (ap (find (eq_by_cmp active_cmp k)) e) ∙ whole
 
 -- with what was taken out nothing is kept of it
 pub at-without_item : (xs : List Active) (q : Active) (rule : RuleId) (m : List Value)
@@ -172,10 +187,10 @@ tied-found xs q y s there e =
     let x : Active = found.0 in
     let its = entry-of x y found.2 in
     let of : is_of x.rule x.tuple q.rule q.tuple ≡ true =
-        tied x q ∙ ap is_eq (sym (in_order x q y (probe q.rule q.tuple) its.rule its.tuple refl refl)) ∙ e in
+    tied x q ∙ ap is_eq (sym (in_order x q y (probe q.rule q.tuple) its.rule its.tuple refl refl)) ∙ e in
     let kept : at xs q.rule q.tuple ≡ Some x =
-        ap (λ r. at xs r q.tuple) (sym (of-rule x.rule q.rule x.tuple q.tuple of))
-        ∙ ap (λ t. at xs x.rule t) (sym (of-tuple x.rule q.rule x.tuple q.tuple of)) ∙ at-member xs x s found.1 in
+    ap (λ r. at xs r q.tuple) (sym (of-rule x.rule q.rule x.tuple q.tuple of))
+    ∙ ap (λ t. at xs x.rule t) (sym (of-tuple x.rule q.rule x.tuple q.tuple of)) ∙ at-member xs x s found.1 in
     ap entry_at kept ∙ found.2
 
 -- what isn't alike by rule and tuple isn't alike by more, and is ordered the same

@@ -159,6 +159,13 @@ impl AgendaOf<Box<dyn Resolver>> {
         Ok(())
     }
 
+    /// The state of a rule with a tuple. It is INACTIVE where the rule isn't one of the agenda's.
+    pub fn state(&self, rule: RuleId, tuple: &Tuple) -> State
+        ensures { result ≡ (kept self.now.active rule tuple.now).state }
+    {
+        self.states.state(rule, tuple)
+    }
+
     /// The activations that aren't INACTIVE, by rule and tuple.
     pub fn listed(&self) -> Result<List<Listed>, NoMemory>
         ensures listed { IfOk result (λ list. list ≡ map listed_of self.now.active) }

@@ -5,16 +5,17 @@ ghost use Rattle.std.specs.List.Sorted.{IsStrictlySortedBy};
 ghost use Rattle.vt_base.specs.declared.numbers.RuleId.{RuleId};
 ghost use Rattle.vt_base.specs.declared.value.Value.{Value};
 ghost use Rattle.vt_agenda.specs.Event.{is_of};
-ghost use Rattle.vt_agenda.specs.Agenda.{at, entries_of, listed_of};
-ghost use Rattle.vt_agenda.specs.Inside.Order.{active_cmp};
-ghost use Rattle.vt_agenda.specs.Inside.Taking.{placed, entry_at, let_go, take_up};
+ghost use Rattle.std.specs.Ordering.{is_lt};
+ghost use Rattle.vt_agenda.specs.Agenda.{at, activation_of, kept, entries_of, listed_of};
+ghost use Rattle.vt_agenda.specs.Inside.Order.{active_cmp, place, below_closed};
+ghost use Rattle.vt_agenda.specs.Inside.Taking.{placed, entry_at, first_at, let_go, take_up};
 
 use crate::{Active, Listed};
 use std::alloc::Global;
 use std::marker::Model;
-use vt_base::{List, NoMemory, State};
+use vt_base::{List, NoMemory, RuleId, State, Tuple, Walk};
 use vt_resolve::Entry;
-use vt_sorted::Sorted;
+use vt_sorted::{Front, Sorted};
 
 /// Activations by rule and tuple: those that aren't INACTIVE, with room for more.
 #[derive(Debug, Drop)]
@@ -63,6 +64,14 @@ impl States {
         self.set.find(place)
     }
 
+    /// The state of a rule and a tuple. Nothing is made for the search.
+    pub fn state(&self, rule: RuleId, tuple: &Tuple) -> State
+        ensures { result ≡ (kept self.now.items rule tuple.now).state }
+    {
+        self.set.ascend();
+        state_of(self.set.walk_after(&Before { rule, tuple }), rule, tuple)
+    }
+
     /// Keeps this activation in the place of what was kept of its rule and tuple. What is INACTIVE
     /// isn't kept.
     pub fn put(&mut self, active: Active)
@@ -76,7 +85,7 @@ impl States {
         self.set.ascend();
         self.set.remove(&active);
         match active.activation.state {
-            State::Inactive => {}
+            State::Inactive => return,
             _ => {
                 self.set.insert(active).unwrap();
             }
@@ -107,5 +116,39 @@ impl States {
             list.add(active.listed(alloc)?)?;
         }
         Ok(list)
+    }
+}
+
+// What is kept below a rule and a tuple.
+#[derive(Drop)]
+struct Before<'a> {
+    rule: RuleId,
+    tuple: &'a Tuple,
+}
+
+impl<'a> Front<Active> for Before<'a> {
+    ghost holds = { λ before a. is_lt (active_cmp a (place before.rule before.tuple.now)) };
+
+    ghost closed = { λ before x y less holds. below_closed x y (place before.rule before.tuple.now) less holds };
+
+    fn holds(&self, item: &Active) -> bool {
+        item.rule
+            .0
+            .cmp(&self.rule.0)
+            .then(item.tuple.compare(self.tuple))
+            .is_lt()
+    }
+}
+
+// The state of the first of a walk, where that is of the rule and the tuple.
+fn state_of(walk: Walk<'_, Active>, rule: RuleId, tuple: &Tuple) -> State
+    ensures { result ≡ (activation_of (first_at walk.entry rule tuple.now)).state }
+{
+    let mut walk = walk;
+    match walk.next() {
+        Some(found) if rule.0.cmp(&found.rule.0).is_eq() && tuple.compare(&found.tuple).is_eq() => {
+            found.activation.state
+        }
+        _ => State::Inactive,
     }
 }

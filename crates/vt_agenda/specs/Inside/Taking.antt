@@ -1,5 +1,5 @@
 -- How what is due is taken: by the map, and by the resolver.
-use Rattle.std.specs.Prelude.{◌≡◌, ◌≢◌, ℕ, List, Contains, Option, Some, None, option_and_then}
+use Rattle.std.specs.Prelude.{◌≡◌, ◌≢◌, ℕ, List, [], ◌∷◌, Contains, Option, Some, None, option_and_then, if◌then◌else◌}
 use Rattle.vt_base.specs.declared.agenda.State.{State}
 use Rattle.vt_base.specs.declared.agenda.State.TheVariants.{Inactive}
 use Rattle.vt_base.specs.declared.numbers.RuleId.{RuleId}
@@ -7,6 +7,7 @@ use Rattle.vt_base.specs.declared.value.Value.{Value}
 use Rattle.vt_sorted.specs.Ascending.{with_item, without_item}
 use Rattle.vt_resolve.specs.Entries.{by_match}
 use Rattle.vt_resolve.specs.declared.entry.Entry.{Entry}
+use Rattle.vt_agenda.specs.Event.{is_of}
 use Rattle.vt_agenda.specs.Activation.{after}
 use Rattle.vt_agenda.specs.Agenda.{at, activation_of, entry_of}
 use Rattle.vt_agenda.specs.declared.active.Active.{Active}
@@ -31,6 +32,11 @@ active_of trigger m activation = record { rule = trigger.rule; priority = trigge
 abbrev pub taken : ℕ → Option Due → Option Active → Option Active
 taken step None old = old
 taken step (Some d) old = placed (active_of d.trigger d.tuple (after d.trigger step d.fired d.event (activation_of old)))
+
+-- the first activation, where it is of the rule and the tuple
+abbrev pub first_at : List Active → RuleId → List Value → Option Active
+first_at [] rule m = None
+first_at (a ∷ rest) rule m = if is_of rule m a.rule a.tuple then Some a else None
 
 -- the entry of what is kept, where it is enabled
 abbrev pub entry_at : Option Active → Option Entry
