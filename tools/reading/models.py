@@ -1,7 +1,7 @@
 """Model documents: their shape, the changes that they stand for, and the model that these make."""
 from . import shapes
 from .metamodels import KINDS
-from .source import Fault, listed, nearest, perhaps
+from .source import Fault, listed, nearest, one_of, perhaps
 from .strict_json import parse, said_of
 
 MOST_NUMBER = 1_048_576
@@ -141,7 +141,7 @@ class Model:
             return "UnknownClass", made.class_at, f'the class "{made.class_name}" of the object "{made.name}" isn\'t in the metamodel', mend
         if said.abstract:
             below = [n for n in self.meta.below(made.class_name) if not self.meta.classes[n].abstract]
-            mend = f"take {listed(below)}" if below else "no class below it is there: declare one, or take the key \"abstract\" away in the metamodel"
+            mend = f"take {one_of(below)}" if below else "no class below it is there: declare one, or take the key \"abstract\" away in the metamodel"
             return "AbstractClass", made.class_at, f'the class "{made.class_name}" of the object "{made.name}" is abstract, so no object is of it alone', mend
         if made.name in self.objects:
             line = self.source.line(self.objects[made.name].at)

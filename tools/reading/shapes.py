@@ -74,7 +74,7 @@ def object_of(what, shapes, required, elsewhere=()):
     def of_object(node, path):
         here = path.removesuffix(".")
         if node.kind != "object":
-            yield misfit(node, here or f"the {what}", f" is {said_of(node)}, and has to be an object in {{ }}, {what}")
+            yield misfit(node, here or "the document", f" is {said_of(node)}, and has to be {what}, an object in {{ }}")
             return
         inside = f"{here}." if here else ""
         for key, held in node.value.items():

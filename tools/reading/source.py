@@ -57,10 +57,9 @@ class Source:
 
     def lines(self):
         """The lines without their ends; there is none behind the last line feed."""
-        found = self.text.split("\n")
-        if not found[-1]:
-            found.pop()
-        return [line[:-1] if line.endswith("\r") else line for line in found]
+        *found, last = self.text.split("\n")
+        ended = [line[:-1] if line.endswith("\r") else line for line in found]
+        return ended + [last] if last else ended
 
     def quoted(self, at, width=100):
         """The line of a place, so far as it can be shown."""
@@ -127,7 +126,8 @@ def distance(a, b, most):
 
 def nearest(name, names):
     """The name among some that is most like this one, if one is like it."""
-    best, least = None, max(1, len(name) // 3) + 1
+    # Of one letter no other is like it, but for its case.
+    best, least = None, (0 if len(name) < 2 else max(1, len(name) // 3)) + 1
     folded = name.casefold()
     for other in names:
         if other == name:
@@ -147,6 +147,10 @@ def listed(names, most=6):
     if len(names) > most:
         return ", ".join(shown) + f" and {len(names) - most} more"
     return ", ".join(shown[:-1]) + " and " + shown[-1] if len(shown) > 1 else "".join(shown)
+
+
+def one_of(names):
+    return f"one of {listed(names)}" if len(names) > 1 else listed(names)
 
 
 def perhaps(name, names, otherwise=""):
@@ -172,7 +176,8 @@ def why_no_name(text, allowed, most=64):
         return f"a name begins with a letter of ASCII or `_`, and not with {sign(text[0])}"
     for character in text:
         if character not in allowed:
-            return f"a name has {signs} of ASCII, and no {sign(character).removeprefix('a ')}"
+            shown = sign(character).removeprefix("a ").removeprefix("the ")
+            return f"a name has {signs} of ASCII, and no {shown}"
     if most and len(text) > most:
         return f"a name has at most {most} bytes, and this one {len(text)}"
     return None
