@@ -267,6 +267,9 @@ def why_no_opposite(meta, item, feature):
         if has is not None:
             return f'"{feature.opposite}" of "{feature.target}" is an attribute', "an opposite is a reference"
         references = [f.name for f in target.features if f.is_reference]
+        owners = [c.name for c in meta.class_list for f in c.features if f.name == feature.opposite and f.target == item.name]
+        if owners:
+            return f'the class "{feature.target}" declares no reference "{feature.opposite}"', f'"{owners[0]}" declares one that leads here: is that the target?'
         return f'the class "{feature.target}" declares no reference "{feature.opposite}"', perhaps(feature.opposite, references, f'it declares {listed(references)}' if references else "declare it there")
     if back.owner == item.name and back.name == feature.name:
         return "it names itself", "an opposite is another reference"
