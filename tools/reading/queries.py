@@ -234,7 +234,7 @@ class Parser:
             while self.here.is_(","):
                 self.take()
                 made.params.append(self.param())
-        self.mark(")", "parameters are separated by commas" if self.here.is_id else "a type stands behind the name, as `s: Segment`")
+        self.mark(")", "a type stands behind the name, as `s: Segment`, and parameters are separated by commas" if self.here.is_id else "")
         made.bodies.append(self.body())
         while self.here.is_("or"):
             self.take()
@@ -268,15 +268,12 @@ class Parser:
         if self.here.is_(";"):
             self.take()
             return
-        before = self.found[self.place - 1]
-        token = self.here
-        line = self.source.line(before.end - 1)
-        said = f"a `;` is missing behind the constraint that ends on line {line}, before {token.said()}"
-        at = token.at if token.sort != "end" else before.end - 1
-        place = self.source.line(at) if token.sort != "end" else len(self.source.lines()) or 1
-        if self.source.line(at) == line or token.sort == "end":
-            at = before.end - 1
-        raise Fault("Syntax", place, at, said, "each constraint ends with one")
+        # It is told with the line of the token before which it is missing, and has to stand behind the one before.
+        before, token = self.found[self.place - 1], self.here
+        if token.sort == "end":
+            raise Fault("Syntax", len(self.source.lines()), before.end, "a `;` is missing here, before the end of the file", "each constraint ends with one")
+        line = self.source.line(token.at)
+        raise Fault("Syntax", line, before.end, f"a `;` is missing here, before {token.said()} of line {line}", "each constraint ends with one")
 
     def constraint(self):
         token = self.here
@@ -312,6 +309,8 @@ class Parser:
                 mend = "a constraint is Class(x), Class.feature(x, y), find p(..), neg find p(..), check(..), or two values with == or != between them"
                 if self.here.is_("="):
                     mend = "values are compared by `==`"
+                elif self.here.is_("<", ">", "<=", ">=", "+", "-", "*", "/", "%"):
+                    mend = "an expression stands in check(..), or in eval(..) behind `==`"
                 self.fail("`(`, `.`, `==` or `!=`", mend)
         if not (token.is_id or token.sort in ("blank", "number", "string") or token.is_("-", "true", "false")):
             mend = "no `;` stands alone" if token.is_(";") else ""
@@ -609,8 +608,9 @@ def narrow_kinds(source, meta, file):
     for place, pattern in enumerate(file.patterns):
         found = {}
         for name, kind in pattern.params:
-            if kind is not None:
-                yield from used(source, found, pattern, name.text, name.at, "an object", place)
+            if kind is not None and kind.text != "java":
+                is_kind = kind.text in KINDS or kind.text in meta.enums
+                yield from used(source, found, pattern, name.text, name.at, f"of the kind {kind.text}" if is_kind else "an object", place)
         for made in (c for body in pattern.bodies for c in body):
             if made.form == "type" and made.terms[0].name:
                 yield from used(source, found, pattern, made.terms[0].name, made.terms[0].at, "an object", place)
