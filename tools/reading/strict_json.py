@@ -6,6 +6,7 @@ from .source import Fault, sign
 DEEPEST = 127
 SPACE = re.compile(r"[ \t\n\r]*")
 PLAIN = re.compile(r'[^"\\\x00-\x1f]*')
+WHOLE = re.compile(r'([^"\\\x00-\x1f]*)"')
 NUMBER = re.compile(r"-?(?:0|[1-9][0-9]*)(?:\.[0-9]+)?(?:[eE][+-]?[0-9]+)?")
 WORD = re.compile(r"[A-Za-z_$][A-Za-z0-9_$]*")
 SHORT = {'"': '"', "\\": "\\", "/": "/", "b": "\b", "f": "\f", "n": "\n", "r": "\r", "t": "\t"}
@@ -24,9 +25,8 @@ class Node:
 
     __slots__ = ("kind", "value", "at", "end", "keys", "lost")
 
-    def __init__(self, kind, value, at, end):
-        self.kind, self.value, self.at, self.end = kind, value, at, end
-        self.keys, self.lost = {}, []
+    def __init__(self, kind, value, at, end, keys=None, lost=()):
+        self.kind, self.value, self.at, self.end, self.keys, self.lost = kind, value, at, end, keys, lost
 
 
 def said_of(node):
@@ -52,6 +52,10 @@ class Parser:
         raise Fault("NotJson", 0, at, said, mend)
 
     def skip(self):
+        """The character behind spaces and line ends, and nothing at the end of the file."""
+        mark = self.text[self.at : self.at + 1]
+        if mark > " ":
+            return mark
         self.at = SPACE.match(self.text, self.at).end()
         if self.at >= len(self.text):
             if self.source.bad_byte is not None:
@@ -88,7 +92,7 @@ class Parser:
                 self.fail(self.at, f"a comment begins here (`{mark}`), and JSON has none", "take it away")
 
     def value(self):
-        begin, mark = self.at, self.skip()
+        mark = self.skip()
         begin = self.at
         if mark == "{":
             return self.object(begin)
@@ -152,6 +156,10 @@ class Parser:
     def string(self):
         begin, parts = self.at, []
         self.at += 1
+        plain = WHOLE.match(self.text, self.at)
+        if plain:
+            self.at = plain.end()
+            return plain.group(1)
         while True:
             plain = PLAIN.match(self.text, self.at)
             parts.append(plain.group())
@@ -207,12 +215,13 @@ class Parser:
     def array(self, begin):
         self.enter(begin)
         items = []
-        if self.skip() == "]":
-            return self.closed("array", items, begin)
-        while True:
+        if self.skip() != "]":
             items.append(self.value())
-            if self.goes_on("]"):
-                return self.closed("array", items, begin)
+            while not self.goes_on("]"):
+                items.append(self.value())
+        self.open.pop()
+        self.at += 1
+        return Node("array", items, begin, self.at)
 
     def object(self, begin):
         self.enter(begin)
@@ -237,9 +246,9 @@ class Parser:
             if mark == "}":
                 comma = self.text.rindex(",", 0, self.at)
                 self.fail(comma, "a comma stands here, and no key follows it", "take the comma away")
-        made = self.closed("object", members, begin)
-        made.keys, made.lost = keys, lost
-        return made
+        self.open.pop()
+        self.at += 1
+        return Node("object", members, begin, self.at, keys, lost)
 
     def no_key(self, mark):
         self.cut_off("a key")
@@ -267,11 +276,6 @@ class Parser:
         if mark == ":":
             self.fail(self.at, "a `:` stands behind a value, where a comma has to stand", "keys stand in { }, and not in [ ]" if close == "]" else "")
         self.fail(ended, f"a comma is missing here, before {self.met()} of line {self.source.line(self.at)}", "put it in")
-
-    def closed(self, kind, held, begin):
-        self.open.pop()
-        self.at += 1
-        return Node(kind, held, begin, self.at)
 
 
 DIGIT = tuple("0123456789")
