@@ -6,7 +6,7 @@ that has its grammar is none of that part.
 import re
 
 from .metamodels import KINDS
-from .source import Fault, listed, not_text, perhaps, sign
+from .source import Fault, listed, perhaps, sign
 
 KEYWORDS = "package import pattern private or find neg check eval sum min max avg count java true false".split()
 AGGREGATES = ("sum", "min", "max", "avg", "count")
@@ -488,8 +488,7 @@ def duplicates(source, file):
             own[name.text] = name
 
 
-def literal_reason(meta, term, place):
-    enum, literal = term.literal
+def literal_reason(meta, enum, literal, place):
     if enum.text not in meta.enums:
         return Reason(enum.at, f'there is no enum "{enum.text}"', perhaps(enum.text, meta.enums, f"the metamodel has {listed(meta.enums)}" if meta.enums else "the metamodel has none"), name="UnknownName", pattern=place)
     had = meta.literals(enum.text)
@@ -546,8 +545,11 @@ def names(meta, file, whole):
             if made.call is not None and made.call.name.text not in known:
                 mend = perhaps(made.call.name.text, known, f"the file has {listed(sorted(known))}")
                 yield Reason(made.call.name.at, f'there is no pattern "{made.call.name.text}"', mend, name="UnknownName", pattern=place)
-            for term in [*made.terms, *(a for a in (made.call.args if made.call else []) if isinstance(a, Term))]:
-                reason = literal_reason(meta, term, place) if term.literal else None
+            args = [a for a in (made.call.args if made.call else []) if isinstance(a, Term)]
+            literals = [term.literal for term in [*made.terms, *args] if term.literal]
+            literals += [(a, c) for a, b, c in zip(made.inner, made.inner[1:], made.inner[2:]) if b.is_("::") and a.is_id]
+            for enum, literal in literals:
+                reason = literal_reason(meta, enum, literal, place)
                 if reason:
                     yield reason
 
@@ -655,51 +657,3 @@ def reasons(meta, source, file):
     mistakes = [*duplicates(source, file), *names(meta, file, False), *arities(source, file), *narrow_kinds(source, meta, file), *limits(file)]
     mistakes.sort(key=lambda reason: reason.at)
     return mistakes, sorted(later_forms(file), key=lambda reason: reason.at)
-
-
-def explained(meta, source, name, place):
-    """The fault that the program tells of a file, as this reading sees it; none where it sees none there."""
-    if source.bad_byte is not None:
-        return not_text(source, "NotText", 0)
-    try:
-        file = parse(source)
-    except Fault as fault:
-        # The program may read too little to tell a fault of the grammar by its name.
-        return Fault(name, place, fault.at, fault.said, fault.mend) if name == "NotBuilt" and fault.name == "Syntax" else fault
-    if name == "NotBuilt":
-        mistakes, forms = reasons(meta, source, file)
-        for reason in [*mistakes, *forms]:
-            return Fault(name, place, reason.at, reason.said, reason.mend)
-        return None
-    return whole_language(meta, source, file, name, place)
-
-
-def whole_language(meta, source, file, name, place):
-    """A fault of the whole language, by its name and its place."""
-    if name == "UnknownImport" and place < len(file.imports):
-        token = file.imports[place][1]
-        return Fault(name, place, token.at, f'the metamodel\'s uri is "{meta.uri}", and not {token.text}', "import that one, or change the metamodel's \"uri\"")
-    if name == "Unsupported":
-        return next((f for f in unsupported(source, file) if f.place == place), None)
-    every = [*duplicates(source, file), *names(meta, file, True), *arities(source, file), *narrow_kinds(source, meta, file), *limits(file)]
-    for reason in every:
-        if reason.name == name and reason.pattern == place:
-            return Fault(name, place, reason.at, reason.said, reason.mend)
-    return None
-
-
-def unsupported(source, file):
-    """Forms that are refused for good."""
-    for pattern in file.patterns:
-        tokens_of = [(kind, "a java type") for _, kind in pattern.params if kind is not None and kind.is_("java")]
-        for made in (c for body in pattern.bodies for c in body):
-            if made.call is not None and made.call.closure:
-                tokens_of.append((made.call.closure, f"the closure `{made.call.closure.text}`"))
-            if made.aggregate is not None and made.aggregate.is_("count", "avg"):
-                tokens_of.append((made.aggregate, f"`{made.aggregate.text} find`"))
-            if made.type is not None and made.type.is_("java"):
-                tokens_of.append((made.type, "a java type"))
-            if made.form in ("check", "eval"):
-                tokens_of.append((made.token, f"an expression of this form in `{made.token.text}`"))
-        for token, what in tokens_of:
-            yield Fault("Unsupported", source.line(token.at), token.at, f"{what} isn't a part of the language here", "docs/QUERIES.md has what is")
