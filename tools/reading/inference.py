@@ -36,7 +36,13 @@ class Body:
                 self.exprs[id(made)] = expressions.parse(made.inner)
         self.uses = {}
         counts = self.counts()
-        loose = [t.name for made in constraints if made.form in ("neg", "aggregate") for t in made.call.args if isinstance(t, Term)]
+        loose = [
+            t.name
+            for made in constraints
+            if made.form in ("neg", "aggregate")
+            for t in made.call.args
+            if isinstance(t, Term)
+        ]
         # A variable that stands once, in a call that binds nothing, is read as `_`.
         self.any = {name for name in loose if name is not None and counts[name] == 1 and name not in self.params}
 
@@ -132,7 +138,10 @@ class Program:
     # ---- faults
 
     def recursive(self):
-        calls = [{self.by_name[c.call.name.text]: c.call.name for body in p.bodies for c in body if c.call is not None} for p in self.file.patterns]
+        calls = [
+            {self.by_name[c.call.name.text]: c.call.name for body in p.bodies for c in body if c.call is not None}
+            for p in self.file.patterns
+        ]
         for place, pattern in enumerate(self.file.patterns):
             came, waiting = {}, [place]
             while waiting:
@@ -144,7 +153,13 @@ class Program:
                             path.append(came[path[-1]])
                         names = [self.file.patterns[i].name for i in [*reversed(path), place]]
                         token = calls[place][self.by_name[names[1]]]
-                        yield Reason(token.at, f'the pattern "{pattern.name}" calls itself: {" calls ".join(names)}', "no pattern may, directly or through others", name="Recursive", pattern=place)
+                        yield Reason(
+                            token.at,
+                            f'the pattern "{pattern.name}" calls itself: {" calls ".join(names)}',
+                            "no pattern may, directly or through others",
+                            name="Recursive",
+                            pattern=place,
+                        )
                         waiting = []
                         break
                     if called not in came:
@@ -161,7 +176,9 @@ class Program:
                 for kind, at in found[1:]:
                     if kind != found[0][0]:
                         said = f'the parameter "{name.text}" of "{pattern.name}" is {said_kind(kind)} here, and {said_kind(found[0][0])} in another body (line {source.line(found[0][1])})'
-                        yield Reason(at, said, "a parameter has one kind in all bodies", name="KindClash", pattern=place)
+                        yield Reason(
+                            at, said, "a parameter has one kind in all bodies", name="KindClash", pattern=place
+                        )
 
     def clashes_of(self, source, place, body):
         name = body.pattern.name
@@ -172,20 +189,34 @@ class Program:
         for variable, use in body.uses.items():
             if len(use.kinds) > 1:
                 (first, at), (second, other) = list(use.kinds.items())[:2]
-                yield clash(max(at, other), f'the variable "{variable}" of "{name}" is {said_kind(second if other >= at else first)} here, and {said_kind(first if other >= at else second)} on line {source.line(min(at, other))}', "take two names")
+                yield clash(
+                    max(at, other),
+                    f'the variable "{variable}" of "{name}" is {said_kind(second if other >= at else first)} here, and {said_kind(first if other >= at else second)} on line {source.line(min(at, other))}',
+                    "take two names",
+                )
         for made in body.constraints:
             for term, kinds in self.positions(made, body):
                 if term.is_constant and any(kind != term.kind for kind in kinds):
-                    yield clash(term.at, f"a constant of the kind {term.kind} stands where a value {said_kind(sorted(kinds - {term.kind})[0])} has to stand")
+                    yield clash(
+                        term.at,
+                        f"a constant of the kind {term.kind} stands where a value {said_kind(sorted(kinds - {term.kind})[0])} has to stand",
+                    )
             if made.form == "differ":
                 left, right = (self.term_kinds(term, body) for term in made.terms)
                 if any(a != b for a in left for b in right):
-                    yield clash(made.token.at, f"`!=` compares a value {said_kind(sorted(left)[0])} with one {said_kind(sorted(right)[0])}")
+                    yield clash(
+                        made.token.at,
+                        f"`!=` compares a value {said_kind(sorted(left)[0])} with one {said_kind(sorted(right)[0])}",
+                    )
             if made.form == "aggregate":
                 column = next((i for i, arg in enumerate(made.call.args) if isinstance(arg, Token)), None)
                 kinds = self.param_kinds(made.call.name, column) if column is not None else set()
                 if any(kind != "int" for kind in kinds):
-                    yield clash(made.call.args[column].at, f'`#` marks the parameter {column + 1} of "{made.call.name.text}", which is {said_kind(sorted(kinds - {"int"})[0])}', "sums and the like are of whole numbers")
+                    yield clash(
+                        made.call.args[column].at,
+                        f'`#` marks the parameter {column + 1} of "{made.call.name.text}", which is {said_kind(sorted(kinds - {"int"})[0])}',
+                        "sums and the like are of whole numbers",
+                    )
             if id(made) in body.exprs:
                 yield from self.expression_clashes(made, body, clash)
 
@@ -197,11 +228,23 @@ class Program:
         objects = [slot for slot in slots if OBJECT in body.use(slot.slot).kinds]
         kinds = self.expr_kinds(made, body)
         if objects:
-            yield clash(objects[0].token.at, f'the variable "{objects[0].slot}" is an object, and stands in an expression', "take an attribute's value: Class.attribute(x, v)")
+            yield clash(
+                objects[0].token.at,
+                f'the variable "{objects[0].slot}" is an object, and stands in an expression',
+                "take an attribute's value: Class.attribute(x, v)",
+            )
         elif not kinds:
-            yield clash(made.token.at, f"the expression of `{made.token.text}` has operands of kinds that don't fit", "arithmetic and < take whole numbers, && || and ! booleans, == and != two of one kind")
+            yield clash(
+                made.token.at,
+                f"the expression of `{made.token.text}` has operands of kinds that don't fit",
+                "arithmetic and < take whole numbers, && || and ! booleans, == and != two of one kind",
+            )
         elif made.form == "check" and "boolean" not in kinds:
-            yield clash(made.token.at, f"the expression of `check` is {said_kind(sorted(kinds)[0])}", "it has to be true or false: compare it with something")
+            yield clash(
+                made.token.at,
+                f"the expression of `check` is {said_kind(sorted(kinds)[0])}",
+                "it has to be true or false: compare it with something",
+            )
 
     def unbound(self, source):
         for place, bodies in enumerate(self.bodies):
@@ -209,13 +252,22 @@ class Program:
                 bound = self.bound(body)
                 for variable, at in [(n.text, n.at) for n, _ in body.pattern.params] + list(body.occurrences()):
                     if variable not in bound and variable not in body.any:
-                        where = "" if len(bodies) == 1 else f" of the body that begins on line {source.line(body.constraints[0].token.at) if body.constraints else source.line(body.pattern.token.at)}"
+                        where = (
+                            ""
+                            if len(bodies) == 1
+                            else f" of the body that begins on line {source.line(body.constraints[0].token.at) if body.constraints else source.line(body.pattern.token.at)}"
+                        )
                         said = f'no constraint{where} gives the variable "{variable}" of "{body.pattern.name}" a value'
                         yield Reason(at, said, self.how_bound(body, variable), name="Unbound", pattern=place)
                         break
 
     def how_bound(self, body, variable):
-        forms = {made.form for made in body.constraints for term in [*made.terms, *(a for a in (made.call.args if made.call else []) if isinstance(a, Term))] if term.name == variable}
+        forms = {
+            made.form
+            for made in body.constraints
+            for term in [*made.terms, *(a for a in (made.call.args if made.call else []) if isinstance(a, Term))]
+            if term.name == variable
+        }
         if not forms and any(slot.slot == variable for expr in body.exprs.values() for slot in expr.slots()):
             return "it stands in an expression alone, which only asks: give it by a class, a feature, find or =="
         if forms and forms <= {"neg", "aggregate"}:

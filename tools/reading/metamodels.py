@@ -56,7 +56,9 @@ CLASS = shapes.object_of(
     },
     ("name",),
     {
-        **dict.fromkeys(("super", "extends", "supertypes", "superTypes", "eSuperTypes"), 'supertypes stand in the list "supers"'),
+        **dict.fromkeys(
+            ("super", "extends", "supertypes", "superTypes", "eSuperTypes"), 'supertypes stand in the list "supers"'
+        ),
         **dict.fromkeys(("features", "properties", "fields"), 'features stand in "attributes" and "references"'),
         "links": 'a class has "references"; the links are the model\'s',
     },
@@ -71,7 +73,9 @@ DOCUMENT = shapes.object_of(
     },
     ("format", "classes"),
     {
-        **dict.fromkeys(("objects", "next"), "this looks like a model: the metamodel's file comes first, the model's second"),
+        **dict.fromkeys(
+            ("objects", "next"), "this looks like a model: the metamodel's file comes first, the model's second"
+        ),
         "name": 'a metamodel has no name; the text that queries import is its "uri"',
     },
 )
@@ -185,17 +189,33 @@ def duplicate(meta, source):
     for place, item in enumerate([*meta.enum_list, *meta.class_list]):
         what = "the enum" if isinstance(item, Enum) else "the class"
         if item.name in KINDS:
-            raise Fault("DuplicateName", place, item.at, f'{what} "{item.name}" has the name of a kind', "give it another name")
+            raise Fault(
+                "DuplicateName", place, item.at, f'{what} "{item.name}" has the name of a kind', "give it another name"
+            )
         if item.name in seen:
             line = source.line(seen[item.name])
-            raise Fault("DuplicateName", place, item.at, f'the name "{item.name}" is taken: it stands on line {line} already', "rename one of the two; enums and classes share their names")
+            raise Fault(
+                "DuplicateName",
+                place,
+                item.at,
+                f'the name "{item.name}" is taken: it stands on line {line} already',
+                "rename one of the two; enums and classes share their names",
+            )
         seen[item.name] = item.at
         inner = item.literals if isinstance(item, Enum) else [(f.name, f.at) for f in item.features]
         first = {}
         for name, at in inner:
             if name in first:
                 part = "literal" if isinstance(item, Enum) else "feature"
-                raise Fault("DuplicateName", place, at, f'{what} "{item.name}" has two {part}s "{name}": the other one is on line {source.line(first[name])}', "rename one of the two" if part == "literal" else "rename one of the two; attributes and references share their names")
+                raise Fault(
+                    "DuplicateName",
+                    place,
+                    at,
+                    f'{what} "{item.name}" has two {part}s "{name}": the other one is on line {source.line(first[name])}',
+                    "rename one of the two"
+                    if part == "literal"
+                    else "rename one of the two; attributes and references share their names",
+                )
             first[name] = at
 
 
@@ -203,19 +223,37 @@ def unknown_type(meta, source):
     for place, item in places(meta):
         for name, at in item.supers:
             if name not in meta.classes:
-                mend = f'"{name}" is an enum, and none has subclasses' if name in meta.enums else perhaps(name, meta.classes, "declare it, or take it away")
-                raise Fault("UnknownType", place, at, f'the supertype "{name}" of the class "{item.name}" is no class', mend)
+                mend = (
+                    f'"{name}" is an enum, and none has subclasses'
+                    if name in meta.enums
+                    else perhaps(name, meta.classes, "declare it, or take it away")
+                )
+                raise Fault(
+                    "UnknownType", place, at, f'the supertype "{name}" of the class "{item.name}" is no class', mend
+                )
         for feature in item.features:
             if not feature.is_reference and feature.kind not in KINDS and feature.kind not in meta.enums:
                 at = feature.node.value["kind"].at
-                raise Fault("UnknownType", place, at, f'the kind "{feature.kind}" of the attribute "{feature.name}" of "{item.name}" is none of int, boolean and string, and no enum', of_kind(meta, feature.kind))
+                raise Fault(
+                    "UnknownType",
+                    place,
+                    at,
+                    f'the kind "{feature.kind}" of the attribute "{feature.name}" of "{item.name}" is none of int, boolean and string, and no enum',
+                    of_kind(meta, feature.kind),
+                )
         for feature in item.features:
             if feature.is_reference and feature.target not in meta.classes:
                 at = feature.node.value["target"].at
                 mend = perhaps(feature.target, meta.classes, "declare it, or take the reference away")
                 if feature.target in meta.enums or feature.target in KINDS:
                     mend = f'make it an attribute of the kind "{feature.target}"'
-                raise Fault("UnknownType", place, at, f'the target "{feature.target}" of the reference "{feature.name}" of "{item.name}" is no class', mend)
+                raise Fault(
+                    "UnknownType",
+                    place,
+                    at,
+                    f'the target "{feature.target}" of the reference "{feature.name}" of "{item.name}" is no class',
+                    mend,
+                )
 
 
 def of_kind(meta, name):
@@ -253,7 +291,13 @@ def super_cycle(meta, source):
             at = next(at for name, at in item.supers if name == path[1])
             lines = sorted({source.line(meta.classes[name].at) for name in path})
             said = f'the class "{item.name}" is above itself: {" under ".join(path)}'
-            raise Fault("SuperCycle", place, at, said, f"take one of these supertypes away ({'line' if len(lines) == 1 else 'lines'} {', '.join(map(str, lines))})")
+            raise Fault(
+                "SuperCycle",
+                place,
+                at,
+                said,
+                f"take one of these supertypes away ({'line' if len(lines) == 1 else 'lines'} {', '.join(map(str, lines))})",
+            )
 
 
 def why_no_opposite(meta, item, feature):
@@ -263,22 +307,38 @@ def why_no_opposite(meta, item, feature):
     if back is None:
         has = meta.features(feature.target).get(feature.opposite)
         if has is not None and has.owner != feature.target:
-            return f'"{feature.target}" has "{feature.opposite}" from the class "{has.owner}", and doesn\'t declare it itself', "declare it there, or lead the reference to that class"
+            return (
+                f'"{feature.target}" has "{feature.opposite}" from the class "{has.owner}", and doesn\'t declare it itself',
+                "declare it there, or lead the reference to that class",
+            )
         if has is not None:
             return f'"{feature.opposite}" of "{feature.target}" is an attribute', "an opposite is a reference"
         references = [f.name for f in target.features if f.is_reference]
-        owners = [c.name for c in meta.class_list for f in c.features if f.name == feature.opposite and f.target == item.name]
+        owners = [
+            c.name for c in meta.class_list for f in c.features if f.name == feature.opposite and f.target == item.name
+        ]
         if owners:
-            return f'the class "{feature.target}" declares no reference "{feature.opposite}"', f'"{owners[0]}" declares one that leads here: is that the target?'
-        return f'the class "{feature.target}" declares no reference "{feature.opposite}"', perhaps(feature.opposite, references, f'it declares {listed(references)}' if references else "declare it there")
+            return (
+                f'the class "{feature.target}" declares no reference "{feature.opposite}"',
+                f'"{owners[0]}" declares one that leads here: is that the target?',
+            )
+        return f'the class "{feature.target}" declares no reference "{feature.opposite}"', perhaps(
+            feature.opposite, references, f"it declares {listed(references)}" if references else "declare it there"
+        )
     if back.owner == item.name and back.name == feature.name:
         return "it names itself", "an opposite is another reference"
     if back.target != item.name:
-        return f'"{back.name}" of "{back.owner}" leads to "{back.target}", and not to "{item.name}"', f'"target":"{item.name}" there, or declare this one in "{back.target}"'
+        return (
+            f'"{back.name}" of "{back.owner}" leads to "{back.target}", and not to "{item.name}"',
+            f'"target":"{item.name}" there, or declare this one in "{back.target}"',
+        )
     if back.opposite is None:
         return f'"{back.name}" of "{back.owner}" names no opposite', f'write "opposite":"{feature.name}" there too'
     if back.opposite != feature.name:
-        return f'"{back.name}" of "{back.owner}" names "{back.opposite}" as its opposite, and not "{feature.name}"', "each of the two has to name the other one"
+        return (
+            f'"{back.name}" of "{back.owner}" names "{back.opposite}" as its opposite, and not "{feature.name}"',
+            "each of the two has to name the other one",
+        )
     return None
 
 
@@ -316,7 +376,13 @@ def clash(meta, source):
                 if other is not feature:
                     lines = f'"{other.owner}" (line {source.line(other.at)}) and "{feature.owner}" (line {source.line(feature.at)})'
                     said = f'the class "{item.name}" has two features "{feature.name}": those of {lines}'
-                    raise Fault("FeatureClash", place, item.at, said, "rename one of the two, or declare it once in a class above both")
+                    raise Fault(
+                        "FeatureClash",
+                        place,
+                        item.at,
+                        said,
+                        "rename one of the two, or declare it once in a class above both",
+                    )
 
 
 def too_many(meta, source):
@@ -325,9 +391,25 @@ def too_many(meta, source):
     counts = [
         (len(meta.class_list), MOST_CLASSES, "classes", lambda: meta.class_list[MOST_CLASSES].at),
         (len(meta.enum_list), MOST_ENUMS, "enums", lambda: meta.enum_list[MOST_ENUMS].at),
-        (len(most_literals.literals) if most_literals else 0, MOST_LITERALS, f'literals of the enum "{most_literals.name}"' if most_literals else "", lambda: most_literals.literals[MOST_LITERALS][1]),
-        (features, MOST_FEATURES, "attributes and references", lambda: [f.at for c in meta.class_list for f in c.features][MOST_FEATURES]),
+        (
+            len(most_literals.literals) if most_literals else 0,
+            MOST_LITERALS,
+            f'literals of the enum "{most_literals.name}"' if most_literals else "",
+            lambda: most_literals.literals[MOST_LITERALS][1],
+        ),
+        (
+            features,
+            MOST_FEATURES,
+            "attributes and references",
+            lambda: [f.at for c in meta.class_list for f in c.features][MOST_FEATURES],
+        ),
     ]
     for count, most, what, at in counts:
         if count > most:
-            raise Fault("TooMany", count, at(), f"{count} {what}, of which there may be {most}; here is the first past these", "split the metamodel")
+            raise Fault(
+                "TooMany",
+                count,
+                at(),
+                f"{count} {what}, of which there may be {most}; here is the first past these",
+                "split the metamodel",
+            )

@@ -10,10 +10,20 @@ UNKNOWN_FEATURE, WRONG_KIND = "UnknownFeature", "WrongKind"
 
 def entry(node, path):
     if node.kind in ("array", "object"):
-        mend = "links to objects stand in \"links\"" if node.kind == "array" else ""
-        yield shapes.misfit(node, path, f" is {said_of(node)}, and an attribute's value is null, true, false, a whole number or a text", mend)
+        mend = 'links to objects stand in "links"' if node.kind == "array" else ""
+        yield shapes.misfit(
+            node,
+            path,
+            f" is {said_of(node)}, and an attribute's value is null, true, false, a whole number or a text",
+            mend,
+        )
     elif node.kind == "number" and (node.value is None or node.value >= 2**63):
-        yield shapes.misfit(node, path, f" is {said_of(node)}", "an attribute takes whole numbers of 64 bits with a sign, without a point or an exponent")
+        yield shapes.misfit(
+            node,
+            path,
+            f" is {said_of(node)}",
+            "an attribute takes whole numbers of 64 bits with a sign, without a point or an exponent",
+        )
 
 
 OBJECT = shapes.object_of(
@@ -38,7 +48,9 @@ DOCUMENT = shapes.object_of(
     {"format": shapes.the_format, "next": shapes.whole, "objects": shapes.list_of(OBJECT, "object")},
     ("format", "objects"),
     {
-        **dict.fromkeys(("classes", "enums", "uri"), "this looks like a metamodel: its file comes first, the model's second"),
+        **dict.fromkeys(
+            ("classes", "enums", "uri"), "this looks like a metamodel: its file comes first, the model's second"
+        ),
         "name": "a model has no name",
     },
 )
@@ -69,15 +81,37 @@ def numbered(document):
         number = above if own is None else own.value
         at = node if own is None else own
         if number < above:
-            misfits.append(shapes.misfit(at, f"objects[{i}].number", f" is {number}, and the numbers of objects rise: the one before has {above - 1}", "leave the number out, and it is one above the one before"))
+            misfits.append(
+                shapes.misfit(
+                    at,
+                    f"objects[{i}].number",
+                    f" is {number}, and the numbers of objects rise: the one before has {above - 1}",
+                    "leave the number out, and it is one above the one before",
+                )
+            )
         if number > MOST_NUMBER - 1 and not misfits:
-            misfits.append(shapes.misfit(at, f"objects[{i}]", f" has the number {number}, and the greatest is {MOST_NUMBER - 1}"))
+            misfits.append(
+                shapes.misfit(at, f"objects[{i}]", f" has the number {number}, and the greatest is {MOST_NUMBER - 1}")
+            )
         above = number + 1
         found.append((node, number))
     following = document.value.get("next")
-    if following is not None and following.kind == "number" and following.value is not None and following.value >= 0 and not misfits:
+    if (
+        following is not None
+        and following.kind == "number"
+        and following.value is not None
+        and following.value >= 0
+        and not misfits
+    ):
         if following.value < above:
-            misfits.append(shapes.misfit(following, "next", f" is {following.value}, and has to be above the numbers of all objects, so at least {above}", "leave it out"))
+            misfits.append(
+                shapes.misfit(
+                    following,
+                    "next",
+                    f" is {following.value}, and has to be above the numbers of all objects, so at least {above}",
+                    "leave it out",
+                )
+            )
         elif following.value > MOST_NUMBER:
             misfits.append(shapes.misfit(following, "next", f" is {following.value}, and is at most {MOST_NUMBER}"))
     return found, misfits
@@ -138,16 +172,40 @@ class Model:
             mend = perhaps(made.class_name, self.meta.classes, f"the metamodel has {listed(self.meta.classes)}")
             if made.class_name in self.meta.enums:
                 mend = "it is an enum, and objects are of classes"
-            return "UnknownClass", made.class_at, f'the class "{made.class_name}" of the object "{made.name}" isn\'t in the metamodel', mend
+            return (
+                "UnknownClass",
+                made.class_at,
+                f'the class "{made.class_name}" of the object "{made.name}" isn\'t in the metamodel',
+                mend,
+            )
         if said.abstract:
             below = [n for n in self.meta.below(made.class_name) if not self.meta.classes[n].abstract]
-            mend = f"take {one_of(below)}" if below else "no class below it is there: declare one, or take the key \"abstract\" away in the metamodel"
-            return "AbstractClass", made.class_at, f'the class "{made.class_name}" of the object "{made.name}" is abstract, so no object is of it alone', mend
+            mend = (
+                f"take {one_of(below)}"
+                if below
+                else 'no class below it is there: declare one, or take the key "abstract" away in the metamodel'
+            )
+            return (
+                "AbstractClass",
+                made.class_at,
+                f'the class "{made.class_name}" of the object "{made.name}" is abstract, so no object is of it alone',
+                mend,
+            )
         if made.name in self.objects:
             line = self.source.line(self.objects[made.name].at)
-            return "NameTaken", made.at, f'the name "{made.name}" is taken: an object of line {line} has it already', "rename one of the two; the names of objects of all classes differ"
+            return (
+                "NameTaken",
+                made.at,
+                f'the name "{made.name}" is taken: an object of line {line} has it already',
+                "rename one of the two; the names of objects of all classes differ",
+            )
         if made.name.startswith("_") and made.name != f"_{made.number}":
-            return "ReservedName", made.at, f'the name "{made.name}" begins with `_`, and such a name is `_` and the object\'s number, which is {made.number}', f'rename it, or write "_{made.number}"'
+            return (
+                "ReservedName",
+                made.at,
+                f'the name "{made.name}" begins with `_`, and such a name is `_` and the object\'s number, which is {made.number}',
+                f'rename it, or write "_{made.number}"',
+            )
         self.objects[made.name] = made
         self.order.append(made)
         return None
@@ -156,14 +214,19 @@ class Model:
 
     def unknown_feature(self, made, key, at, part):
         had = self.meta.features(made.class_name)
-        mend = perhaps(key, had, f'it has {listed(had)}' if had else "it has no features")
+        mend = perhaps(key, had, f"it has {listed(had)}" if had else "it has no features")
         lower = [n for n in self.meta.below(made.class_name) if key in self.meta.features(n)]
         others = [c.name for c in self.meta.class_list if key in self.meta.features(c.name)]
         if lower:
-            mend = f'{listed(lower)} below it has one: is the object of that class?'
+            mend = f"{listed(lower)} below it has one: is the object of that class?"
         elif others and nearest(key, had) is None:
             mend = f"{listed(others)} has one; {mend}"
-        return UNKNOWN_FEATURE, at, f'the class "{made.class_name}" of the object "{made.name}" has no feature "{key}"', mend
+        return (
+            UNKNOWN_FEATURE,
+            at,
+            f'the class "{made.class_name}" of the object "{made.name}" has no feature "{key}"',
+            mend,
+        )
 
     def set(self, change):
         made, key, node = change.object, change.key, change.value
@@ -171,7 +234,12 @@ class Model:
         if feature is None:
             return self.unknown_feature(made, key, change.at, "attributes")
         if feature.is_reference:
-            return WRONG_KIND, change.at, f'"{key}" of the object "{made.name}" is a reference, and stands among its attributes', f'write "links":{{"{key}":[..]}}'
+            return (
+                WRONG_KIND,
+                change.at,
+                f'"{key}" of the object "{made.name}" is a reference, and stands among its attributes',
+                f'write "links":{{"{key}":[..]}}',
+            )
         if node.kind == "null":
             self.values.pop((made.name, key), None)
             return None
@@ -187,12 +255,26 @@ class Model:
                 mend = f"it has {listed(literals)}" if literals else "put it in double quotes"
             elif wanted == "boolean" and node.kind == "number" and node.value in (0, 1):
                 mend = f"write {'true' if node.value else 'false'}"
-            return WRONG_KIND, node.at, f'the attribute "{key}" of the object "{made.name}" is of the kind {feature.kind} and takes {needs}, and here stands {said_of(node)}', mend
+            return (
+                WRONG_KIND,
+                node.at,
+                f'the attribute "{key}" of the object "{made.name}" is of the kind {feature.kind} and takes {needs}, and here stands {said_of(node)}',
+                mend,
+            )
         if feature.kind not in KINDS and node.value not in self.meta.literals(feature.kind):
             literals = self.meta.literals(feature.kind)
             bare = node.value.rpartition("::")[2].rpartition(".")[2]
-            mend = f'write "{bare}" alone' if bare in literals else perhaps(node.value, literals, f"it has {listed(literals)}")
-            return "WrongValue", node.at, f'the enum "{feature.kind}" has no literal "{node.value}", which the object "{made.name}" gives to "{key}"', mend
+            mend = (
+                f'write "{bare}" alone'
+                if bare in literals
+                else perhaps(node.value, literals, f"it has {listed(literals)}")
+            )
+            return (
+                "WrongValue",
+                node.at,
+                f'the enum "{feature.kind}" has no literal "{node.value}", which the object "{made.name}" gives to "{key}"',
+                mend,
+            )
         self.values[made.name, key] = node.value
         return None
 
@@ -206,17 +288,32 @@ class Model:
                 mend += f" (line {self.source.line(self.objects[nearest(target, self.objects)].at)})"
             elif target in self.meta.classes:
                 mend = "it is a class: a target is the name of an object"
-            return "UnknownObject", change.at, f'the object "{made.name}" names "{target}" as a target of its link "{key}", and no object of this document has that name', mend or "add the object, or take the target away"
+            return (
+                "UnknownObject",
+                change.at,
+                f'the object "{made.name}" names "{target}" as a target of its link "{key}", and no object of this document has that name',
+                mend or "add the object, or take the target away",
+            )
         feature = self.meta.features(made.class_name).get(key)
         if feature is None:
             return self.unknown_feature(made, key, change.value, "links")
         if not feature.is_reference:
-            return WRONG_KIND, change.value, f'"{key}" of the object "{made.name}" is an attribute, and stands among its links', f'write "attributes":{{"{key}":..}}'
+            return (
+                WRONG_KIND,
+                change.value,
+                f'"{key}" of the object "{made.name}" is an attribute, and stands among its links',
+                f'write "attributes":{{"{key}":..}}',
+            )
         other = self.objects[target]
         if not self.meta.is_a(other.class_name, feature.target):
             said = f'the link "{key}" of the object "{made.name}" leads to objects of the class "{feature.target}", and "{target}" (line {self.source.line(other.at)}) is of "{other.class_name}"'
             fitting = [n for n in self.objects if self.meta.is_a(self.objects[n].class_name, feature.target)]
-            return "WrongTarget", change.at, said, perhaps(target, fitting, "name another object, or change the target's class or the metamodel")
+            return (
+                "WrongTarget",
+                change.at,
+                said,
+                perhaps(target, fitting, "name another object, or change the target's class or the metamodel"),
+            )
         return self.join(change, feature, made.name, target)
 
     def join(self, change, feature, name, target):

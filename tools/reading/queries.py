@@ -10,9 +10,7 @@ from .source import Fault, listed, perhaps, sign
 
 KEYWORDS = "package import pattern private or find neg check eval sum min max avg count java true false".split()
 AGGREGATES = ("sum", "min", "max", "avg", "count")
-MARKS = sorted(
-    "( ) { } [ ] , ; : :: . # @ = == != < <= > >= + - * / % ! & && | || ?".split(), key=len, reverse=True
-)
+MARKS = sorted("( ) { } [ ] , ; : :: . # @ = == != < <= > >= + - * / % ! & && | || ?".split(), key=len, reverse=True)
 GREATEST = 2**63 - 1
 BETWEEN = re.compile(r"(?:[ \t\n]|\r\n|//[^\n]*|/\*.*?\*/)*", re.S)
 WORD = re.compile(r"[A-Za-z_][A-Za-z0-9_]*")
@@ -64,7 +62,11 @@ def tokens(source):
         number = NUMBER.match(text, at)
         if number:
             if WORD.match(text, number.end()):
-                bad(at, f"a number is directly followed by {sign(text[number.end()])}", "a name begins with a letter; put a space or a mark between the two")
+                bad(
+                    at,
+                    f"a number is directly followed by {sign(text[number.end()])}",
+                    "a name begins with a letter; put a space or a mark between the two",
+                )
             if len(number.group().lstrip("0")) > 19 or int(number.group()[-25:]) > GREATEST:
                 bad(at, f"a number is at most {GREATEST}")
             found.append(Token("number", number.group(), at, number.end()))
@@ -77,7 +79,11 @@ def tokens(source):
                 line = text[at : len(text) if end < 0 else end]
                 escape = re.search(r'^"(?:[^"\\]|\\["\\nt])*(\\[^"\\nt])', line)
                 if escape:
-                    bad(at, f"the string that begins here has the escape `{escape.group(1)}`, which is none", r'there are \", \\, \n and \t')
+                    bad(
+                        at,
+                        f"the string that begins here has the escape `{escape.group(1)}`, which is none",
+                        r"there are \", \\, \n and \t",
+                    )
                 bad(at, "the string that begins here isn't closed on its line", 'close it by a `"`')
             found.append(Token("string", string.group(), at, string.end()))
             at = string.end()
@@ -90,10 +96,14 @@ def tokens(source):
         if letter == "\ufeff" and at == 0:
             bad(at, "the file begins with a byte order mark", "save it as UTF-8 without one")
         if letter == "'":
-            bad(at, "`'` begins no token", 'a string stands in double quotes')
+            bad(at, "`'` begins no token", "a string stands in double quotes")
         if letter == "\r":
             bad(at, "a carriage return stands here without a line feed behind it", "end lines by a line feed")
-        mend = "names have letters of ASCII alone" if letter.isalpha() else "outside strings and comments there is no such sign"
+        mend = (
+            "names have letters of ASCII alone"
+            if letter.isalpha()
+            else "outside strings and comments there is no such sign"
+        )
         bad(at, f"{sign(letter)} begins no token", mend)
 
 
@@ -163,7 +173,9 @@ class Parser:
             at = self.found[-1].end - 1 if self.found else 0
             lines = len(self.source.lines()) or 1
             raise Fault("Syntax", lines, at, f"the file ends here, where {said} has to stand", mend)
-        raise Fault("Syntax", self.source.line(token.at), token.at, f"{token.said()} stands where {said} has to stand", mend)
+        raise Fault(
+            "Syntax", self.source.line(token.at), token.at, f"{token.said()} stands where {said} has to stand", mend
+        )
 
     def take(self):
         token = self.here
@@ -222,7 +234,9 @@ class Parser:
             elif self.here.is_("import", "package"):
                 mend = "package and imports stand before the first pattern, in this order"
             elif self.here.sort == "word":
-                mend = perhaps(self.here.text, ["pattern", "private", "import", "package", "or"], "a pattern begins with this word")
+                mend = perhaps(
+                    self.here.text, ["pattern", "private", "import", "package", "or"], "a pattern begins with this word"
+                )
             self.fail("`pattern`", mend)
         self.take()
         name = self.id("the pattern's name")
@@ -234,7 +248,12 @@ class Parser:
             while self.here.is_(","):
                 self.take()
                 made.params.append(self.param())
-        self.mark(")", "a type stands behind the name, as `s: Segment`, and parameters are separated by commas" if self.here.is_id else "")
+        self.mark(
+            ")",
+            "a type stands behind the name, as `s: Segment`, and parameters are separated by commas"
+            if self.here.is_id
+            else "",
+        )
         made.bodies.append(self.body())
         while self.here.is_("or"):
             self.take()
@@ -271,9 +290,21 @@ class Parser:
         # It is told with the line of the token before which it is missing, and has to stand behind the one before.
         before, token = self.found[self.place - 1], self.here
         if token.sort == "end":
-            raise Fault("Syntax", len(self.source.lines()), before.end, "a `;` is missing here, before the end of the file", "each constraint ends with one")
+            raise Fault(
+                "Syntax",
+                len(self.source.lines()),
+                before.end,
+                "a `;` is missing here, before the end of the file",
+                "each constraint ends with one",
+            )
         line = self.source.line(token.at)
-        raise Fault("Syntax", line, before.end, f"a `;` is missing here, before {token.said()} of line {line}", "each constraint ends with one")
+        raise Fault(
+            "Syntax",
+            line,
+            before.end,
+            f"a `;` is missing here, before {token.said()} of line {line}",
+            "each constraint ends with one",
+        )
 
     def constraint(self):
         token = self.here
@@ -348,7 +379,9 @@ class Parser:
     def one_term(self, made):
         self.mark("(")
         made.terms = [self.term()]
-        self.mark(")", "a type has one value: Class(x); a feature has two: Class.feature(x, y)" if self.here.is_(",") else "")
+        self.mark(
+            ")", "a type has one value: Class(x); a feature has two: Class.feature(x, y)" if self.here.is_(",") else ""
+        )
 
     def path(self, made):
         made.type = self.take()
@@ -457,17 +490,32 @@ def later_forms(file):
             yield unbuilt(token.at, "an annotation")
         for _, kind in pattern.params:
             if kind is not None and kind.text in KINDS:
-                yield unbuilt(kind.at, f"the kind `{kind.text}` as a type", "take the type away: where the variable is an attribute's value, its kind is known")
+                yield unbuilt(
+                    kind.at,
+                    f"the kind `{kind.text}` as a type",
+                    "take the type away: where the variable is an attribute's value, its kind is known",
+                )
         if len(pattern.bodies) > 1:
-            yield unbuilt(pattern.token.at, f"a pattern with several bodies (`or`), as \"{pattern.name}\"")
+            yield unbuilt(pattern.token.at, f'a pattern with several bodies (`or`), as "{pattern.name}"')
         for made in (c for body in pattern.bodies for c in body):
             if made.form == "type" and made.type.text in KINDS:
                 yield unbuilt(made.type.at, f"the kind `{made.type.text}` as a type")
             elif made.form == "path" and len(made.path) > 1:
-                yield unbuilt(made.type.at, "a path of several features", f"write a constraint for each, with a variable between: {made.type.text}.{made.path[0].text}(x, m); ..")
+                yield unbuilt(
+                    made.type.at,
+                    "a path of several features",
+                    f"write a constraint for each, with a variable between: {made.type.text}.{made.path[0].text}(x, m); ..",
+                )
             elif made.form not in ("type", "path"):
-                words = {"find": "a call of a pattern (`find`)", "neg": "a negation (`neg find`)", "check": "`check`", "eval": "`eval`"}
-                shown = words.get(made.form) or (f"an aggregate (`{made.aggregate.text}`)" if made.aggregate else "a comparison by `==` or `!=`")
+                words = {
+                    "find": "a call of a pattern (`find`)",
+                    "neg": "a negation (`neg find`)",
+                    "check": "`check`",
+                    "eval": "`eval`",
+                }
+                shown = words.get(made.form) or (
+                    f"an aggregate (`{made.aggregate.text}`)" if made.aggregate else "a comparison by `==` or `!=`"
+                )
                 yield unbuilt(made.token.at, shown)
             for term in made.terms:
                 if term.is_constant and made.form in ("type", "path"):
@@ -479,21 +527,49 @@ def duplicates(source, file):
     for place, pattern in enumerate(file.patterns):
         if pattern.name in seen:
             line = source.line(seen[pattern.name].at)
-            yield Reason(pattern.token.at, f'the name "{pattern.name}" is taken: a pattern of line {line} has it', "rename one of the two", name="DuplicatePattern", pattern=place)
+            yield Reason(
+                pattern.token.at,
+                f'the name "{pattern.name}" is taken: a pattern of line {line} has it',
+                "rename one of the two",
+                name="DuplicatePattern",
+                pattern=place,
+            )
         seen.setdefault(pattern.name, pattern.token)
         own = {}
         for name, _ in pattern.params:
             if name.text in own:
-                yield Reason(name.at, f'the pattern "{pattern.name}" has two parameters "{name.text}"', "rename one of the two", name="DuplicatePattern", pattern=place)
+                yield Reason(
+                    name.at,
+                    f'the pattern "{pattern.name}" has two parameters "{name.text}"',
+                    "rename one of the two",
+                    name="DuplicatePattern",
+                    pattern=place,
+                )
             own[name.text] = name
 
 
 def literal_reason(meta, enum, literal, place):
     if enum.text not in meta.enums:
-        return Reason(enum.at, f'there is no enum "{enum.text}"', perhaps(enum.text, meta.enums, f"the metamodel has {listed(meta.enums)}" if meta.enums else "the metamodel has none"), name="UnknownName", pattern=place)
+        return Reason(
+            enum.at,
+            f'there is no enum "{enum.text}"',
+            perhaps(
+                enum.text,
+                meta.enums,
+                f"the metamodel has {listed(meta.enums)}" if meta.enums else "the metamodel has none",
+            ),
+            name="UnknownName",
+            pattern=place,
+        )
     had = meta.literals(enum.text)
     if literal.text not in had:
-        return Reason(literal.at, f'the enum "{enum.text}" has no literal "{literal.text}"', perhaps(literal.text, had, f"it has {listed(had)}"), name="UnknownName", pattern=place)
+        return Reason(
+            literal.at,
+            f'the enum "{enum.text}" has no literal "{literal.text}"',
+            perhaps(literal.text, had, f"it has {listed(had)}"),
+            name="UnknownName",
+            pattern=place,
+        )
     return None
 
 
@@ -502,7 +578,11 @@ def no_class(meta, token, place, what):
     mend = perhaps(token.text, meta.classes, f"the metamodel has {listed(meta.classes)}")
     if token.text in KINDS or token.text in meta.enums:
         said = f'"{token.text}" is {"a kind" if token.text in KINDS else "an enum"} and no class'
-        mend = "a path begins with the class that has the feature" if what == "path" else "take the type away: of an attribute's value the kind is known"
+        mend = (
+            "a path begins with the class that has the feature"
+            if what == "path"
+            else "take the type away: of an attribute's value the kind is known"
+        )
     return Reason(token.at, said, mend, name="UnknownName", pattern=place)
 
 
@@ -519,10 +599,22 @@ def path_reason(meta, made, place):
             lower = [n for n in meta.below(at_class) if token.text in meta.features(n)]
             if lower:
                 mend = f"{listed(lower)} below it has one: write {lower[0]}.{token.text}(..)"
-            return Reason(token.at, f'the class "{at_class}" has no feature "{token.text}"', mend, name="UnknownName", pattern=place)
+            return Reason(
+                token.at,
+                f'the class "{at_class}" has no feature "{token.text}"',
+                mend,
+                name="UnknownName",
+                pattern=place,
+            )
         if i + 1 < len(made.path):
             if not feature.is_reference:
-                return Reason(token.at, f'"{token.text}" of "{at_class}" is an attribute, and a path goes on behind references alone', "", name="UnknownName", pattern=place)
+                return Reason(
+                    token.at,
+                    f'"{token.text}" of "{at_class}" is an attribute, and a path goes on behind references alone',
+                    "",
+                    name="UnknownName",
+                    pattern=place,
+                )
             at_class = feature.target
     return None
 
@@ -536,7 +628,11 @@ def names(meta, file, whole):
         types += [c.type for c in constraints if c.form == "type"]
         for token in types:
             is_kind = token.text in KINDS or token.text in meta.enums
-            if token.text not in meta.classes and token.text != "java" and not (is_kind and (whole or token.text in KINDS)):
+            if (
+                token.text not in meta.classes
+                and token.text != "java"
+                and not (is_kind and (whole or token.text in KINDS))
+            ):
                 yield no_class(meta, token, place, "type")
         for made in constraints:
             reason = path_reason(meta, made, place) if made.form == "path" else None
@@ -544,10 +640,18 @@ def names(meta, file, whole):
                 yield reason
             if made.call is not None and made.call.name.text not in known:
                 mend = perhaps(made.call.name.text, known, f"the file has {listed(sorted(known))}")
-                yield Reason(made.call.name.at, f'there is no pattern "{made.call.name.text}"', mend, name="UnknownName", pattern=place)
+                yield Reason(
+                    made.call.name.at,
+                    f'there is no pattern "{made.call.name.text}"',
+                    mend,
+                    name="UnknownName",
+                    pattern=place,
+                )
             args = [a for a in (made.call.args if made.call else []) if isinstance(a, Term)]
             literals = [term.literal for term in [*made.terms, *args] if term.literal]
-            literals += [(a, c) for a, b, c in zip(made.inner, made.inner[1:], made.inner[2:]) if b.is_("::") and a.is_id]
+            literals += [
+                (a, c) for a, b, c in zip(made.inner, made.inner[1:], made.inner[2:]) if b.is_("::") and a.is_id
+            ]
             for enum, literal in literals:
                 reason = literal_reason(meta, enum, literal, place)
                 if reason:
@@ -563,11 +667,25 @@ def arities(source, file):
             called, marks = by_name.get(made.call.name.text), [a for a in made.call.args if isinstance(a, Token)]
             if called is not None and len(called.params) != len(made.call.args):
                 said = f'"{called.name}" has {counted(len(called.params), "parameter")} (line {source.line(called.token.at)}), and is given {len(made.call.args)} here'
-                yield Reason(made.call.name.at, said, "give one for each; `_` for any", name="WrongArity", pattern=place)
+                yield Reason(
+                    made.call.name.at, said, "give one for each; `_` for any", name="WrongArity", pattern=place
+                )
             elif made.form == "aggregate" and len(marks) != 1:
-                yield Reason(made.call.name.at, f"an aggregate has one `#`, and here stand {len(marks)}", "mark the parameter whose values are taken", name="WrongArity", pattern=place)
+                yield Reason(
+                    made.call.name.at,
+                    f"an aggregate has one `#`, and here stand {len(marks)}",
+                    "mark the parameter whose values are taken",
+                    name="WrongArity",
+                    pattern=place,
+                )
             elif made.form != "aggregate" and marks:
-                yield Reason(marks[0].at, "`#` stands in the calls of aggregates alone", "write `_` for any value", name="WrongArity", pattern=place)
+                yield Reason(
+                    marks[0].at,
+                    "`#` stands in the calls of aggregates alone",
+                    "write `_` for any value",
+                    name="WrongArity",
+                    pattern=place,
+                )
 
 
 def counted(count, what):
@@ -576,7 +694,13 @@ def counted(count, what):
 
 def limits(file):
     if len(file.patterns) > 512:
-        yield Reason(file.patterns[512].token.at, "this is the 513th pattern, and there may be 512", "split the file", name="TooMany", pattern=512)
+        yield Reason(
+            file.patterns[512].token.at,
+            "this is the 513th pattern, and there may be 512",
+            "split the file",
+            name="TooMany",
+            pattern=512,
+        )
     for place, pattern in enumerate(file.patterns):
         at, counts = pattern.token.at, [(len(pattern.params), 16, "parameter"), (len(pattern.bodies), 32, "bodie")]
         declared = sum(kind is not None for _, kind in pattern.params)
@@ -586,7 +710,15 @@ def limits(file):
         for count, most, what in counts:
             if count > most:
                 said = f'the pattern "{pattern.name}" has {count} {what}s, and may have {most}'
-                yield Reason(at, said, "declared types are constraints too, and each `_` is a variable" if what in ("constraint", "variable") else "", name="TooMany", pattern=place)
+                yield Reason(
+                    at,
+                    said,
+                    "declared types are constraints too, and each `_` is a variable"
+                    if what in ("constraint", "variable")
+                    else "",
+                    name="TooMany",
+                    pattern=place,
+                )
                 break
 
 
@@ -612,20 +744,43 @@ def narrow_kinds(source, meta, file):
         for name, kind in pattern.params:
             if kind is not None and kind.text != "java":
                 is_kind = kind.text in KINDS or kind.text in meta.enums
-                yield from used(source, found, pattern, name.text, name.at, f"of the kind {kind.text}" if is_kind else "an object", place)
+                yield from used(
+                    source,
+                    found,
+                    pattern,
+                    name.text,
+                    name.at,
+                    f"of the kind {kind.text}" if is_kind else "an object",
+                    place,
+                )
         for made in (c for body in pattern.bodies for c in body):
             if made.form == "type" and made.terms[0].name:
                 yield from used(source, found, pattern, made.terms[0].name, made.terms[0].at, "an object", place)
             elif made.form == "path" and len(made.path) == 1:
-                feature = meta.features(made.type.text).get(made.path[0].text) if made.type.text in meta.classes else None
-                for term, kind in zip(made.terms, ("an object", feature and ("an object" if feature.is_reference else f"of the kind {feature.kind}"))):
+                feature = (
+                    meta.features(made.type.text).get(made.path[0].text) if made.type.text in meta.classes else None
+                )
+                for term, kind in zip(
+                    made.terms,
+                    ("an object", feature and ("an object" if feature.is_reference else f"of the kind {feature.kind}")),
+                ):
                     if term.name and kind:
                         yield from used(source, found, pattern, term.name, term.at, kind, place)
         for body in pattern.bodies:
             for name, kind in pattern.params:
                 if kind is None and name.text not in standing(body):
-                    where = "constraint" if len(pattern.bodies) == 1 else f"constraint of the body that begins on line {source.line(body[0].token.at) if body else source.line(pattern.token.at)}"
-                    yield Reason(name.at, f'the parameter "{name.text}" of "{pattern.name}" stands in no {where}', "use it in one, or take it away", name="Unbound", pattern=place)
+                    where = (
+                        "constraint"
+                        if len(pattern.bodies) == 1
+                        else f"constraint of the body that begins on line {source.line(body[0].token.at) if body else source.line(pattern.token.at)}"
+                    )
+                    yield Reason(
+                        name.at,
+                        f'the parameter "{name.text}" of "{pattern.name}" stands in no {where}',
+                        "use it in one, or take it away",
+                        name="Unbound",
+                        pattern=place,
+                    )
 
 
 def standing(body):
@@ -654,6 +809,12 @@ def parse(source):
 
 def reasons(meta, source, file):
     """Why a file that has its grammar isn't read by this version: mistakes first, each in file order."""
-    mistakes = [*duplicates(source, file), *names(meta, file, False), *arities(source, file), *narrow_kinds(source, meta, file), *limits(file)]
+    mistakes = [
+        *duplicates(source, file),
+        *names(meta, file, False),
+        *arities(source, file),
+        *narrow_kinds(source, meta, file),
+        *limits(file),
+    ]
     mistakes.sort(key=lambda reason: reason.at)
     return mistakes, sorted(later_forms(file), key=lambda reason: reason.at)

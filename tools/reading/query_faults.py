@@ -11,7 +11,11 @@ def explained(meta, source, name, place):
         file = queries.parse(source)
     except Fault as fault:
         # The program may read too little to tell a fault of the grammar by its name.
-        return Fault(name, place, fault.at, fault.said, fault.mend) if name == "NotBuilt" and fault.name == "Syntax" else fault
+        return (
+            Fault(name, place, fault.at, fault.said, fault.mend)
+            if name == "NotBuilt" and fault.name == "Syntax"
+            else fault
+        )
     if name == "NotBuilt":
         mistakes, forms = queries.reasons(meta, source, file)
         for reason in [*mistakes, *forms]:
@@ -24,11 +28,22 @@ def whole_language(meta, source, file, name, place):
     """A fault of the whole language, by its name and its place."""
     if name == "UnknownImport" and place < len(file.imports):
         token = file.imports[place][1]
-        return Fault(name, place, token.at, f'the metamodel\'s uri is "{meta.uri}", and not {token.text}', "import that one, or change the metamodel's \"uri\"")
+        return Fault(
+            name,
+            place,
+            token.at,
+            f'the metamodel\'s uri is "{meta.uri}", and not {token.text}',
+            'import that one, or change the metamodel\'s "uri"',
+        )
     if name == "Unsupported":
         return next((f for f in unsupported(source, file) if f.place == place), None)
     # What follows asks for names that are there.
-    every = [*queries.duplicates(source, file), *queries.names(meta, file, True), *queries.arities(source, file), *queries.limits(file)]
+    every = [
+        *queries.duplicates(source, file),
+        *queries.names(meta, file, True),
+        *queries.arities(source, file),
+        *queries.limits(file),
+    ]
     if not every:
         program = inference.Program(meta, file)
         every = [*program.recursive(), *program.clashes(source), *program.unbound(source)]
@@ -54,8 +69,18 @@ def unsupported(source, file):
                 try:
                     expressions.parse(made.inner)
                 except expressions.NoExpression as why:
-                    shown = f"{why.token.said()} at this place of `{made.token.text}(..)`" if why.token else f"this unfinished expression in `{made.token.text}(..)`"
+                    shown = (
+                        f"{why.token.said()} at this place of `{made.token.text}(..)`"
+                        if why.token
+                        else f"this unfinished expression in `{made.token.text}(..)`"
+                    )
                     # It is told with the line of the check or the eval, and stands where it is no expression.
                     found.append((made.token, why.token or made.token, shown))
     for token, at, what in sorted(found, key=lambda item: item[0].at):
-        yield Fault("Unsupported", source.line(token.at), at.at, f"{what} isn't a part of the language here", "docs/QUERIES.md has what is")
+        yield Fault(
+            "Unsupported",
+            source.line(token.at),
+            at.at,
+            f"{what} isn't a part of the language here",
+            "docs/QUERIES.md has what is",
+        )

@@ -66,7 +66,9 @@ class Reader:
     def id(self, what, form):
         if self.place >= len(self.tokens) or not self.tokens[self.place].is_id:
             token = self.tokens[self.place] if self.place < len(self.tokens) else None
-            self.fail(what, f"`{token.text}` is a keyword" if token and token.sort == "word" else f"it is written `{form}`")
+            self.fail(
+                what, f"`{token.text}` is a keyword" if token and token.sort == "word" else f"it is written `{form}`"
+            )
         return self.take()
 
     def feature(self, form):
@@ -87,9 +89,18 @@ def line_of(source, number, text):
     reader = Reader(source, number, text)
     first = reader.tokens[0] if reader.tokens else None
     if first is None:
-        raise Fault("Syntax", number, reader.start + len(text) - len(text.lstrip()), "this line has no word", "begin a remark with `//` at the line's first column")
+        raise Fault(
+            "Syntax",
+            number,
+            reader.start + len(text) - len(text.lstrip()),
+            "this line has no word",
+            "begin a remark with `//` at the line's first column",
+        )
     if not first.is_(*FORMS):
-        reader.fail("the first word of a line of rules", perhaps(first.text, FORMS) if first.sort == "word" else f"there are {listed(FORMS, 11)}")
+        reader.fail(
+            "the first word of a line of rules",
+            perhaps(first.text, FORMS) if first.sort == "word" else f"there are {listed(FORMS, 11)}",
+        )
     reader.take()
     made, form = Line(number, reader.start, first.text), FORMS[first.text]
     if first.text == "agenda":
@@ -148,7 +159,13 @@ def read_expression(reader, made):
     except expressions.NoExpression as why:
         at = why.token.at if why.token else reader.tokens[-1].end
         shown = why.token.said() if why.token else "the line's end"
-        raise Fault("Syntax", reader.number, reader.start + at, f"{shown} stands where an expression goes on", "docs/QUERIES.md, \"Expressions\"") from None
+        raise Fault(
+            "Syntax",
+            reader.number,
+            reader.start + at,
+            f"{shown} stands where an expression goes on",
+            'docs/QUERIES.md, "Expressions"',
+        ) from None
 
 
 def lines_of(source):
@@ -165,29 +182,53 @@ def lines_of(source):
         line = line_of(source, number, text)
         if line.word in ("agenda", "rule"):
             if rule is not None:
-                fail(line, f'the rule "{rule.name.text}" of line {rule.number} isn\'t ended before this line', "write `end` behind its last job" if jobs and statements else "a rule has a job, a job has a statement, and then comes `end`")
+                fail(
+                    line,
+                    f'the rule "{rule.name.text}" of line {rule.number} isn\'t ended before this line',
+                    "write `end` behind its last job"
+                    if jobs and statements
+                    else "a rule has a job, a job has a statement, and then comes `end`",
+                )
             if line.word == "rule":
                 rule, jobs, statements = line, 0, 0
         elif rule is None:
-            fail(line, f"`{line.word}` stands in no rule", "jobs and statements stand behind a line `rule ..`, and before its `end`")
+            fail(
+                line,
+                f"`{line.word}` stands in no rule",
+                "jobs and statements stand behind a line `rule ..`, and before its `end`",
+            )
         elif line.word == "job":
             if jobs and not statements:
                 fail(line, "the job before has no statement", "take it away, or give it one")
             jobs, statements = jobs + 1, 0
         elif line.word == "end":
             if not jobs:
-                fail(line, f'the rule "{rule.name.text}" of line {rule.number} has no job', "write `job created` and what it does before `end`")
+                fail(
+                    line,
+                    f'the rule "{rule.name.text}" of line {rule.number} has no job',
+                    "write `job created` and what it does before `end`",
+                )
             if not statements:
                 fail(line, "the last job has no statement", "take it away, or give it one")
             rule = None
         else:
             if not jobs:
-                fail(line, f"`{line.word}` stands in no job", "write `job created`, `job updated` or `job deleted` before it")
+                fail(
+                    line,
+                    f"`{line.word}` stands in no job",
+                    "write `job created`, `job updated` or `job deleted` before it",
+                )
             statements += 1
         found.append(line)
     if rule is not None:
         at = source.starts[len(texts) - 1] if texts else 0
-        raise Fault("Syntax", len(texts) or 1, at, f'the file ends, and the rule "{rule.name.text}" of line {rule.number} isn\'t ended', "write `end` behind its last job")
+        raise Fault(
+            "Syntax",
+            len(texts) or 1,
+            at,
+            f'the file ends, and the rule "{rule.name.text}" of line {rule.number} isn\'t ended',
+            "write `end` behind its last job",
+        )
     return found
 
 
@@ -222,7 +263,10 @@ class Judge:
             return {}
         place = self.shown[line.pattern.text]
         pattern = self.program.file.patterns[place]
-        return {name.text: next(iter(self.program.param_kinds(pattern.token, i)), None) for i, (name, _) in enumerate(pattern.params)}
+        return {
+            name.text: next(iter(self.program.param_kinds(pattern.token, i)), None)
+            for i, (name, _) in enumerate(pattern.params)
+        }
 
     def scopes(self):
         """Each line with what it can name."""
@@ -240,8 +284,18 @@ class Judge:
         for line in self.lines:
             if line.word == "rule" and line.pattern.text not in self.shown:
                 private = any(p.name == line.pattern.text for p in self.program.file.patterns)
-                mend = "it is private: take that word away there" if private else perhaps(line.pattern.text, self.shown, f"there are {listed(self.shown)}")
-                yield self.fault("UnknownPattern", line, line.pattern, f'no pattern that isn\'t private is called "{line.pattern.text}"', mend)
+                mend = (
+                    "it is private: take that word away there"
+                    if private
+                    else perhaps(line.pattern.text, self.shown, f"there are {listed(self.shown)}")
+                )
+                yield self.fault(
+                    "UnknownPattern",
+                    line,
+                    line.pattern,
+                    f'no pattern that isn\'t private is called "{line.pattern.text}"',
+                    mend,
+                )
 
     def unknown_names(self):
         agendas = []
@@ -249,30 +303,64 @@ class Judge:
             if line.word == "agenda":
                 agendas.append(line.name.text)
             elif line.word == "rule" and line.agenda.text not in agendas:
-                yield self.fault("UnknownName", line, line.agenda, f'no line before declares an agenda "{line.agenda.text}"', perhaps(line.agenda.text, agendas, f"write `agenda {line.agenda.text} fixed` before the rule"))
+                yield self.fault(
+                    "UnknownName",
+                    line,
+                    line.agenda,
+                    f'no line before declares an agenda "{line.agenda.text}"',
+                    perhaps(line.agenda.text, agendas, f"write `agenda {line.agenda.text} fixed` before the rule"),
+                )
             elif line.word == "create" and line.class_name.text not in self.meta.classes:
-                yield self.fault("UnknownName", line, line.class_name, f'there is no class "{line.class_name.text}"', perhaps(line.class_name.text, self.meta.classes))
+                yield self.fault(
+                    "UnknownName",
+                    line,
+                    line.class_name,
+                    f'there is no class "{line.class_name.text}"',
+                    perhaps(line.class_name.text, self.meta.classes),
+                )
             for token, feature in line.objects:
                 if not scope.has(token.text):
                     yield self.no_variable(line, scope, token)
                 held = self.attributes if line.word in ("set", "unset") else self.references
                 if feature is not None and feature.text not in held:
                     what = "attribute" if held is self.attributes else "reference"
-                    yield self.fault("UnknownName", line, feature, f'no class has {"an" if what == "attribute" else "a"} {what} "{feature.text}"', perhaps(feature.text, held))
+                    yield self.fault(
+                        "UnknownName",
+                        line,
+                        feature,
+                        f'no class has {"an" if what == "attribute" else "a"} {what} "{feature.text}"',
+                        perhaps(feature.text, held),
+                    )
             if line.expr is not None:
                 yield from self.unknown_in(line, scope)
 
     def no_variable(self, line, scope, token):
         names = [*scope.params, *scope.made]
-        return self.fault("UnknownName", line, token, f'there is no variable "{token.text}" here', perhaps(token.text, names, f"there are {listed(names)}" if names else "the pattern has no parameter"))
+        return self.fault(
+            "UnknownName",
+            line,
+            token,
+            f'there is no variable "{token.text}" here',
+            perhaps(token.text, names, f"there are {listed(names)}" if names else "the pattern has no parameter"),
+        )
 
     def unknown_in(self, line, scope):
         for slot in line.expr.slots():
             if slot.slot not in scope.params:
-                mend = "what a job creates has no values before the step" if slot.slot in scope.made else perhaps(slot.slot, scope.params)
+                mend = (
+                    "what a job creates has no values before the step"
+                    if slot.slot in scope.made
+                    else perhaps(slot.slot, scope.params)
+                )
                 yield self.fault("UnknownName", line, slot.token, f'the pattern has no parameter "{slot.slot}"', mend)
             elif slot.attribute is not None and slot.attribute.text not in self.attributes:
-                yield self.fault("UnknownName", line, slot.attribute, f'no class has an attribute "{slot.attribute.text}"', perhaps(slot.attribute.text, self.attributes))
+                yield self.fault(
+                    "UnknownName",
+                    line,
+                    slot.attribute,
+                    f'no class has an attribute "{slot.attribute.text}"',
+                    perhaps(slot.attribute.text, self.attributes),
+                )
         for found in line.expr.literals():
             enum, literal = found.literal
             reason = queries.literal_reason(self.meta, enum, literal, 0)
@@ -284,7 +372,13 @@ class Judge:
             for token, _ in line.objects:
                 kind = scope.params.get(token.text)
                 if token.text not in scope.made and kind is not None and kind != OBJECT:
-                    yield self.fault("KindClash", line, token, f'"{token.text}" is a value {said_kind(kind)}, and stands for an object', "take the parameter that is the object")
+                    yield self.fault(
+                        "KindClash",
+                        line,
+                        token,
+                        f'"{token.text}" is a value {said_kind(kind)}, and stands for an object',
+                        "take the parameter that is the object",
+                    )
             if line.expr is not None:
                 yield from self.clashes_in(line, scope)
 
@@ -298,13 +392,31 @@ class Judge:
         for slot in line.expr.slots():
             kind = scope.params.get(slot.slot)
             if slot.attribute is None and kind == OBJECT:
-                yield self.fault("KindClash", line, slot.token, f'"{slot.slot}" is an object, and an expression is of values', f"take an attribute of it: {slot.slot}.ATTRIBUTE")
+                yield self.fault(
+                    "KindClash",
+                    line,
+                    slot.token,
+                    f'"{slot.slot}" is an object, and an expression is of values',
+                    f"take an attribute of it: {slot.slot}.ATTRIBUTE",
+                )
             elif slot.attribute is not None and kind != OBJECT:
                 yield self.fault("KindClash", line, slot.token, f'"{slot.slot}" is no object, and has no attributes')
             elif slot.attribute is not None and len(kinds(slot)) > 1:
-                yield self.fault("KindClash", line, slot.attribute, f'classes declare "{slot.attribute.text}" with different kinds ({", ".join(sorted(kinds(slot)))})', "read another one, or rename it in one class")
+                yield self.fault(
+                    "KindClash",
+                    line,
+                    slot.attribute,
+                    f'classes declare "{slot.attribute.text}" with different kinds ({", ".join(sorted(kinds(slot)))})',
+                    "read another one, or rename it in one class",
+                )
         if not line.expr.kinds(kinds):
-            yield self.fault("KindClash", line, line.expr.token, "the operands of this expression are of kinds that don't fit", "arithmetic and < take whole numbers, && || and ! booleans, == and != two of one kind")
+            yield self.fault(
+                "KindClash",
+                line,
+                line.expr.token,
+                "the operands of this expression are of kinds that don't fit",
+                "arithmetic and < take whole numbers, && || and ! booleans, == and != two of one kind",
+            )
 
     def duplicates(self):
         agendas, rules, states = {}, {}, {}
@@ -315,11 +427,27 @@ class Judge:
             if seen is not None:
                 token = line.name or line.state
                 if token.text in seen:
-                    what = f'a job for "{token.text}"' if line.word == "job" else f'{"an" if line.word == "agenda" else "a"} {line.word} "{token.text}"'
-                    yield self.fault("Duplicate", line, token, f"{what} stands on line {seen[token.text]} already", "take one of the two away" if line.word == "job" else "rename one of the two")
+                    what = (
+                        f'a job for "{token.text}"'
+                        if line.word == "job"
+                        else f'{"an" if line.word == "agenda" else "a"} {line.word} "{token.text}"'
+                    )
+                    yield self.fault(
+                        "Duplicate",
+                        line,
+                        token,
+                        f"{what} stands on line {seen[token.text]} already",
+                        "take one of the two away" if line.word == "job" else "rename one of the two",
+                    )
                 seen.setdefault(token.text, line.number)
             if line.word == "create" and scope.has(line.name.text):
-                yield self.fault("Duplicate", line, line.name, f'"{line.name.text}" is {"a parameter" if line.name.text in scope.params else "created before"}', "take another name")
+                yield self.fault(
+                    "Duplicate",
+                    line,
+                    line.name,
+                    f'"{line.name.text}" is {"a parameter" if line.name.text in scope.params else "created before"}',
+                    "take another name",
+                )
 
     def too_many(self):
         counts = {"agenda": 0, "rule": 0, "statement": 0}
@@ -332,7 +460,13 @@ class Judge:
                 most = {"agenda": MOST_AGENDAS, "rule": MOST_RULES, "statement": MOST_STATEMENTS}[word]
                 if counts[word] > most:
                     where = " of its job" if word == "statement" else ""
-                    yield Fault("TooMany", line.number, line.start, f"this is the {word} {counts[word]}{where}, and there may be {most}", "")
+                    yield Fault(
+                        "TooMany",
+                        line.number,
+                        line.start,
+                        f"this is the {word} {counts[word]}{where}, and there may be {most}",
+                        "",
+                    )
 
 
 def explained(meta, file, source):

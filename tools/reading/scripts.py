@@ -64,7 +64,11 @@ def command_of(line):
         if "\t" in word:
             raise Refused(line.index("\t"), "a tab stands here", "one space stands between two words")
         if "\r" in word:
-            raise Refused(line.index("\r"), "a carriage return stands here without a line feed behind it", "end lines by a line feed")
+            raise Refused(
+                line.index("\r"),
+                "a carriage return stands here without a line feed behind it",
+                "end lines by a line feed",
+            )
         mend = perhaps(word, COMMANDS)
         if not mend and word in CHANGES:
             mend = f"a change is written `change CLIENT {form_of(word, CHANGES[word])}`"
@@ -86,7 +90,9 @@ def parts(word, wanted, line, at, form):
             raise Refused(at, f"{sign(line[at])} stands where a space has to stand", f"it is written `{form}`")
         at += 1
         if at >= len(line):
-            raise Refused(at - 1, f"the line ends with a space, where {part[1]} has to follow", f"it is written `{form}`")
+            raise Refused(
+                at - 1, f"the line ends with a space, where {part[1]} has to follow", f"it is written `{form}`"
+            )
         is_last = i + 1 == len(wanted)
         if part[0] == "rest":
             return
@@ -107,12 +113,18 @@ def parts(word, wanted, line, at, form):
                 raise Refused(at, "the line ends with a space", "take it away")
             rest = line[at + 1 :]
             mend = "a remark has a line of its own" if rest.lstrip().startswith("//") else f"it is written `{form}`"
-            raise Refused(at + 1, f"{quoted(rest.split(' ')[0]) if rest.split(' ')[0] else 'a second space'} is more than `{word}` takes", mend)
+            raise Refused(
+                at + 1,
+                f"{quoted(rest.split(' ')[0]) if rest.split(' ')[0] else 'a second space'} is more than `{word}` takes",
+                mend,
+            )
     if not wanted and at < len(line):
         if not line[at:].strip(" "):
             raise Refused(at, "the line ends with a space", "take it away")
         remark = line[at:].lstrip().startswith("//")
-        raise Refused(at, f"nothing may follow `{word}`", "a remark has a line of its own" if remark else "take it away")
+        raise Refused(
+            at, f"nothing may follow `{word}`", "a remark has a line of its own" if remark else "take it away"
+        )
 
 
 def piece(part, text, at):
@@ -123,7 +135,9 @@ def piece(part, text, at):
         raise Refused(at + tab, "a tab stands here", "one space stands between two words")
     carriage = text.find("\r")
     if carriage >= 0:
-        raise Refused(at + carriage, "a carriage return stands here without a line feed behind it", "end lines by a line feed")
+        raise Refused(
+            at + carriage, "a carriage return stands here without a line feed behind it", "end lines by a line feed"
+        )
     if sort in ("client", "object", "identifier"):
         limit = 0 if sort == "identifier" else 64
         why = why_no_name(text, IDENTIFIER if sort == "identifier" else OBJECT_NAME, limit)
@@ -140,7 +154,9 @@ def piece(part, text, at):
 def change(line, at, form):
     word = line[at:].split(" ", 1)[0]
     if word not in CHANGES:
-        raise Refused(at, f"no change is called {quoted(word)}", perhaps(word, CHANGES) or f"there are {listed(CHANGES, 9)}")
+        raise Refused(
+            at, f"no change is called {quoted(word)}", perhaps(word, CHANGES) or f"there are {listed(CHANGES, 9)}"
+        )
     parts(word, CHANGES[word], line, at + len(word), f"change CLIENT {form_of(word, CHANGES[word])}")
 
 
@@ -159,10 +175,14 @@ def value(line, at):
     if text.startswith('"'):
         inner = STRING.match(text)
         if inner:
-            raise Refused(at + inner.end(), "something follows the string, which has to end the line", r'write \" for a quote inside it' if '"' in text[inner.end() :] else "take it away")
+            raise Refused(
+                at + inner.end(),
+                "something follows the string, which has to end the line",
+                r"write \" for a quote inside it" if '"' in text[inner.end() :] else "take it away",
+            )
         bad = re.search(r'^"(?:[^"\\]|\\["\\nt])*(\\[^"\\nt])', text)
         if bad:
-            raise Refused(at + bad.start(1), f"`{bad.group(1)}` is no escape", r'there are \", \\, \n and \t')
+            raise Refused(at + bad.start(1), f"`{bad.group(1)}` is no escape", r"there are \", \\, \n and \t")
         raise Refused(at, "the string that begins here isn't closed on its line", 'close it by a `"`')
     if text.endswith(" ") and not text.strip(" ").count(" "):
         raise Refused(at + len(text.rstrip(" ")), "the line ends with a space", "take it away")
@@ -200,7 +220,19 @@ def explained(source, name, place):
         except Refused as why:
             return Fault("Syntax", number, source.starts[number - 1] + why.column, why.said, why.mend)
         if count == MOST_COMMANDS + 1:
-            beyond = Fault("TooMany", number, source.starts[number - 1], f"this is the command {count}, and a script has at most {MOST_COMMANDS}", "split it, with a `dump` at the end of the first part: what it writes is the next one's model")
+            beyond = Fault(
+                "TooMany",
+                number,
+                source.starts[number - 1],
+                f"this is the command {count}, and a script has at most {MOST_COMMANDS}",
+                "split it, with a `dump` at the end of the first part: what it writes is the next one's model",
+            )
         if word in UNBUILT and unbuilt is None:
-            unbuilt = Fault("NotBuilt", count, source.starts[number - 1], f"`{word}` isn't made by this version of the program; this is the command {count}", "take the command away")
+            unbuilt = Fault(
+                "NotBuilt",
+                count,
+                source.starts[number - 1],
+                f"`{word}` isn't made by this version of the program; this is the command {count}",
+                "take the command away",
+            )
     return beyond or unbuilt

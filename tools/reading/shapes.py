@@ -25,7 +25,9 @@ def boolean(node, path):
 
 def whole(node, path):
     if node.kind == "number" and (node.value is None or node.value < 0):
-        yield misfit(node, path, f" is {said_of(node)}, and has to be a whole number from 0 on, without a point or an exponent")
+        yield misfit(
+            node, path, f" is {said_of(node)}, and has to be a whole number from 0 on, without a point or an exponent"
+        )
     elif node.kind != "number":
         mend = "take the quotes away" if node.kind == "string" and node.value.isdigit() else ""
         yield misfit(node, path, f" is {said_of(node)}, and has to be a whole number", mend)
@@ -48,13 +50,19 @@ identifier, object_name = named(IDENTIFIER), named(OBJECT_NAME)
 
 def the_format(node, path):
     if node.kind != "number" or node.value != 1:
-        yield misfit(node, path, f" is {said_of(node)}, and has to be the number 1", "this program reads format 1 alone")
+        yield misfit(
+            node, path, f" is {said_of(node)}, and has to be the number 1", "this program reads format 1 alone"
+        )
 
 
 def list_of(shape, what, least=0):
     def of_list(node, path):
         if node.kind != "array":
-            mend = f"write [ ] around it, also where it has one {what}" if node.kind in ("string", "object", "number") else ""
+            mend = (
+                f"write [ ] around it, also where it has one {what}"
+                if node.kind in ("string", "object", "number")
+                else ""
+            )
             if node.kind == "null":
                 mend = "leave the key out, or write [ ] for an empty list"
             yield misfit(node, path, f" is {said_of(node)}, and has to be a list", mend)
@@ -90,7 +98,13 @@ def object_of(what, shapes, required, elsewhere=()):
             yield (at, at, f"{inside}{key}: {said}" if inside else said, mend)
         for key in required:
             if key not in node.value:
-                yield misfit(node, here, f"{': ' if here else ''}{what} has no key \"{key}\", which it has to have", "", rank=node.end)
+                yield misfit(
+                    node,
+                    here,
+                    f"{': ' if here else ''}{what} has no key \"{key}\", which it has to have",
+                    "",
+                    rank=node.end,
+                )
 
     return of_object
 

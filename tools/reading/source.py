@@ -68,7 +68,11 @@ class Source:
         text = self.text[self.starts[line - 1] : len(self.text) if end < 0 else end].rstrip("\r")
         if len(text) > width:
             begin = min(max(0, column - 1 - width // 2), len(text) - width)
-            text = ("" if begin == 0 else "..") + text[begin : begin + width] + ("" if begin + width == len(text) else "..")
+            text = (
+                ("" if begin == 0 else "..")
+                + text[begin : begin + width]
+                + ("" if begin + width == len(text) else "..")
+            )
         return "".join(c if shows(c) or c == "\t" else "\N{REPLACEMENT CHARACTER}" for c in text)
 
 
@@ -96,11 +100,7 @@ def sign(character):
 def not_text(source, name, place):
     """The fault of a file that isn't UTF-8."""
     return Fault(
-        name,
-        place,
-        len(source.text),
-        f"the byte {source.bad_byte:02x} here is no UTF-8",
-        "save the file in UTF-8",
+        name, place, len(source.text), f"the byte {source.bad_byte:02x} here is no UTF-8", "save the file in UTF-8"
     )
 
 

@@ -12,7 +12,16 @@ WORD = re.compile(r"[A-Za-z_$][A-Za-z0-9_$]*")
 SHORT = {'"': '"', "\\": "\\", "/": "/", "b": "\b", "f": "\f", "n": "\n", "r": "\r", "t": "\t"}
 WORDS = {"true": ("boolean", True), "false": ("boolean", False), "null": ("null", None)}
 # What other notations write in place of these words.
-OTHER_WORDS = {"True": "true", "False": "false", "TRUE": "true", "FALSE": "false", "None": "null", "NULL": "null", "nil": "null", "undefined": "null"}
+OTHER_WORDS = {
+    "True": "true",
+    "False": "false",
+    "TRUE": "true",
+    "FALSE": "false",
+    "None": "null",
+    "NULL": "null",
+    "nil": "null",
+    "undefined": "null",
+}
 
 
 class Node:
@@ -67,10 +76,18 @@ class Parser:
         if self.text.startswith("\ufeff"):
             self.fail(0, "the file begins with a byte order mark", "save it as UTF-8 without one")
         if not self.skip():
-            self.fail(self.at, "the file is empty" if not self.text else "the file has nothing but spaces", "a document is an object in { }")
+            self.fail(
+                self.at,
+                "the file is empty" if not self.text else "the file has nothing but spaces",
+                "a document is an object in { }",
+            )
         found = self.value()
         if self.skip():
-            self.fail(self.at, f"the document has ended before this {self.met()}", "take away what stands here, or the bracket before it that closes too much")
+            self.fail(
+                self.at,
+                f"the document has ended before this {self.met()}",
+                "take away what stands here, or the bracket before it that closes too much",
+            )
         return found
 
     def met(self):
@@ -86,7 +103,11 @@ class Parser:
                 self.fail(self.at, f"the file ends where {wanted} has to stand")
             bracket = self.text[self.open[-1]]
             line, column = self.source.place(self.open[-1])
-            self.fail(self.at, f"the file ends, and the `{bracket}` of line {line}, column {column} isn't closed", "close it, or look for a bracket that is missing further up")
+            self.fail(
+                self.at,
+                f"the file ends, and the `{bracket}` of line {line}, column {column} isn't closed",
+                "close it, or look for a bracket that is missing further up",
+            )
         for mark in ("//", "/*", "#"):
             if self.text.startswith(mark, self.at):
                 self.fail(self.at, f"a comment begins here (`{mark}`), and JSON has none", "take it away")
@@ -111,14 +132,18 @@ class Parser:
         if mark == "'":
             self.fail(begin, "a text stands in double quotes, and not in `'`")
         if mark in "]},":
-            if mark == "," or self.text[: begin].rstrip(" \t\n\r").endswith(","):
+            if mark == "," or self.text[:begin].rstrip(" \t\n\r").endswith(","):
                 comma = begin if mark == "," else self.text.rindex(",", 0, begin)
                 self.fail(comma, "a comma stands here, and no value follows it", "take the comma away")
             self.fail(begin, f"a value is missing before this `{mark}`")
         if mark == "+":
             self.fail(begin, "a number has no `+` before it", "take the sign away")
         if mark == ".":
-            self.fail(begin, "a number has a digit before its point", "write 0 before the point (the program takes whole numbers alone)")
+            self.fail(
+                begin,
+                "a number has a digit before its point",
+                "write 0 before the point (the program takes whole numbers alone)",
+            )
         if word and word.group() in OTHER_WORDS:
             self.fail(begin, f"`{word.group()}` is no word of JSON", f"write {OTHER_WORDS[word.group()]}")
         if word and word.group() in ("NaN", "Infinity"):
@@ -135,7 +160,11 @@ class Parser:
             self.fail(begin, f"behind `-` a digit has to stand, and not {self.met()}")
         text = found.group()
         if text.lstrip("-") == "0" and after in DIGIT:
-            self.fail(begin, "a number has no zero before its other digits", "take the zero away, or put the number in quotes if it is a text")
+            self.fail(
+                begin,
+                "a number has no zero before its other digits",
+                "take the zero away, or put the number in quotes if it is a text",
+            )
         if after == ".":
             self.fail(begin, "behind the point of a number a digit has to stand")
         if after in ("e", "E"):
@@ -172,12 +201,22 @@ class Parser:
                 parts.append(self.escape())
             elif not mark:
                 if self.source.bad_byte is not None:
-                    self.fail(self.at, f"the byte {self.source.bad_byte:02x} here is no UTF-8", "save the file in UTF-8")
+                    self.fail(
+                        self.at, f"the byte {self.source.bad_byte:02x} here is no UTF-8", "save the file in UTF-8"
+                    )
                 self.fail(begin, "the text that begins here is never closed", 'close it by a `"`')
             elif mark in "\n\r":
-                self.fail(begin, "the text that begins here isn't closed on its line", r'close it by a `"`; a line end inside a text is written \n')
+                self.fail(
+                    begin,
+                    "the text that begins here isn't closed on its line",
+                    r'close it by a `"`; a line end inside a text is written \n',
+                )
             else:
-                self.fail(self.at, f"{sign(mark)} stands inside a text as it is", r"write \t for a tab, and \u and four hexadecimal digits for others")
+                self.fail(
+                    self.at,
+                    f"{sign(mark)} stands inside a text as it is",
+                    r"write \t for a tab, and \u and four hexadecimal digits for others",
+                )
 
     def escape(self):
         begin = self.at
@@ -272,10 +311,20 @@ class Parser:
         bracket = self.text[self.open[-1]]
         if mark in "]}":
             line, column = self.source.place(self.open[-1])
-            self.fail(self.at, f"`{mark}` doesn't close the `{bracket}` of line {line}, column {column}", f"write `{close}` here, or close before it what is still open")
+            self.fail(
+                self.at,
+                f"`{mark}` doesn't close the `{bracket}` of line {line}, column {column}",
+                f"write `{close}` here, or close before it what is still open",
+            )
         if mark == ":":
-            self.fail(self.at, "a `:` stands behind a value, where a comma has to stand", "keys stand in { }, and not in [ ]" if close == "]" else "")
-        self.fail(ended, f"a comma is missing here, before {self.met()} of line {self.source.line(self.at)}", "put it in")
+            self.fail(
+                self.at,
+                "a `:` stands behind a value, where a comma has to stand",
+                "keys stand in { }, and not in [ ]" if close == "]" else "",
+            )
+        self.fail(
+            ended, f"a comma is missing here, before {self.met()} of line {self.source.line(self.at)}", "put it in"
+        )
 
 
 DIGIT = tuple("0123456789")
