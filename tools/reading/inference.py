@@ -1,7 +1,9 @@
 """What holds of the patterns of a whole file: that none calls itself, the kinds of variables, and that each is bound."""
 from . import expressions
+from .grammar import Term
 from .metamodels import KINDS
-from .queries import Reason, Term, Token
+from .queries import Reason
+from .tokens import Token
 
 OBJECT = "object"
 

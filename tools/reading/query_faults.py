@@ -1,5 +1,5 @@
 """The faults of query files, as the program tells them."""
-from . import expressions, inference, queries
+from . import expressions, grammar, inference, queries
 from .source import Fault, not_text
 
 
@@ -8,7 +8,7 @@ def explained(meta, source, name, place):
     if source.bad_byte is not None:
         return not_text(source, "NotText", 0)
     try:
-        file = queries.parse(source)
+        file = grammar.parse(source)
     except Fault as fault:
         # The program may read too little to tell a fault of the grammar by its name.
         return (

@@ -2,6 +2,7 @@
 from . import expressions, inference, queries
 from .inference import OBJECT, said_kind
 from .source import Fault, Source, listed, not_text, perhaps
+from .tokens import tokens
 
 POLICIES = ("fixed", "inverted", "oldest", "turns")
 STATES = ("created", "updated", "deleted")
@@ -38,7 +39,7 @@ class Reader:
     def __init__(self, source, number, text):
         self.source, self.number, self.start, self.place = source, number, source.starts[number - 1], 0
         try:
-            self.tokens = queries.tokens(Source(source.name, text.encode()))
+            self.tokens = tokens(Source(source.name, text.encode()))
         except Fault as fault:
             raise Fault("Syntax", number, self.start + fault.at, fault.said, fault.mend) from None
         self.line = len(text)
