@@ -1,6 +1,6 @@
 """Metamodel documents: their shape, their faults, and what classes and features they have."""
 from . import shapes
-from .source import Fault, listed, nearest, perhaps
+from .source import Fault, listed, perhaps
 from .strict_json import parse
 
 KINDS = ("int", "boolean", "string")

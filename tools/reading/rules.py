@@ -171,7 +171,7 @@ def read_expression(reader, made):
 
 def lines_of(source):
     """The lines of a file in their places; the fault Syntax at the first that is none, or stands in a wrong place."""
-    found, rule, jobs, statements, last = [], None, 0, 0, 0
+    found, rule, jobs, statements = [], None, 0, 0
 
     def fail(line, said, mend):
         raise Fault("Syntax", line.number, line.start, said, mend)
