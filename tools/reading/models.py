@@ -169,7 +169,8 @@ class Model:
         made = change.object
         said = self.meta.classes.get(made.class_name)
         if said is None:
-            mend = perhaps(made.class_name, self.meta.classes, f"the metamodel has {listed(self.meta.classes)}")
+            concrete = [c.name for c in self.meta.class_list if not c.abstract]
+            mend = perhaps(made.class_name, self.meta.classes, f"objects can be of {listed(concrete)}")
             if made.class_name in self.meta.enums:
                 mend = "it is an enum, and objects are of classes"
             return (
