@@ -1,0 +1,5 @@
+-- words of public clauses; read them from the top
+pub mod Words
+pub mod Rules
+-- words of private clauses, and what the ghost members of an impl cite
+pub mod Inside
