@@ -1,6 +1,6 @@
 -- The grammar of query files.
 use Rattle.std.specs.Prelude.{ℕ, ℤ, neg_ℤ, List, Bool, true, false, is_none, Option, Some, None}
-use Rattle.vt_base.specs.declared.numbers.AggKind.TheVariants as kind
+use Rattle.vt_base.specs.declared.aggregate.AggKind.TheVariants as kind
 use Rattle.vt_grammar.specs.declared.symbol.Symbol.{Symbol}
 use Rattle.vt_grammar.specs.declared.symbol.Symbol.TheVariants as symbol
 use Rattle.vt_grammar.specs.declared.lexeme.Lexeme.{Lexeme}

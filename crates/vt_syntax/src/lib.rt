@@ -6,6 +6,11 @@
 // What a file spells.
 mod tree;
 // From the lexemes of a file to its tree.
+mod calls;
+mod constraints;
+mod file;
+mod patterns;
+mod terms;
 mod words;
 
 // What a file spells.
@@ -13,4 +18,5 @@ pub use tree::{
     AggTree, ArgTree, BodyTree, CallTree, CodeTree, ConstraintTree, FileTree, ParamTree,
     PatternTree, RightTree, TermTree, TypeTree,
 };
-pub use words::{identifier, feature_name, number, string};
+pub use file::read_file;
+pub use words::{feature_name, identifier, number, string};

@@ -86,21 +86,21 @@ module _ {A B : Type 0} (a : Grammar A) (b b' : Grammar (A → B)) where
 
 -- a function of the front that what follows gives
 module _ {A B C D : Type 0} (n : A → D) (f : D → B → C) (a : Grammar A) (b : Grammar B) where
-  named_to : (ls : List Lexeme) (x : C) → Spells (made (λ y. f y.0 y.1) (seq (made n a) b)) ls x → Spells (made (λ y. y.1 y.0) (seq a (made (λ y z. f (n z) y) b))) ls x
+  named_to : (ls : List Lexeme) (x : C) → Spells (made (λ y. f y.0 y.1) (seq (made n a) b)) ls x → Spells (made (λ (y : A × (A → C)). y.1 y.0) (seq a (made (λ (y : B) (z : A). f (n z) y) b))) ls x
   named_to ls x h = ((h.1.first.0, λ z. f (n z) h.0.1), record { front = h.1.front; back = h.1.back; whole = h.1.whole; first = h.1.first.1; second = (h.0.1, h.1.second, refl) }, ap (λ d. f d h.0.1) h.1.first.2 ∙ h.2)
 
-  named_from : (ls : List Lexeme) (x : C) → Spells (made (λ y. y.1 y.0) (seq a (made (λ y z. f (n z) y) b))) ls x → Spells (made (λ y. f y.0 y.1) (seq (made n a) b)) ls x
+  named_from : (ls : List Lexeme) (x : C) → Spells (made (λ (y : A × (A → C)). y.1 y.0) (seq a (made (λ (y : B) (z : A). f (n z) y) b))) ls x → Spells (made (λ y. f y.0 y.1) (seq (made n a) b)) ls x
   named_from ls x h = ((n h.0.0, h.1.second.0), record { front = h.1.front; back = h.1.back; whole = h.1.whole; first = (h.0.0, h.1.first, refl); second = h.1.second.1 }, ap (λ (g : A → C). g h.0.0) h.1.second.2 ∙ h.2)
 
-  named_part_to : (ls : List Lexeme) → IsPart (made (λ y. f y.0 y.1) (seq (made n a) b)) ls → IsPart (made (λ y. y.1 y.0) (seq a (made (λ y z. f (n z) y) b))) ls
+  named_part_to : (ls : List Lexeme) → IsPart (made (λ y. f y.0 y.1) (seq (made n a) b)) ls → IsPart (made (λ (y : A × (A → C)). y.1 y.0) (seq a (made (λ (y : B) (z : A). f (n z) y) b))) ls
   named_part_to ls (inl p) = inl p
   named_part_to ls (inr h) = inr (h.1.first.0, record { front = h.1.front; back = h.1.back; whole = h.1.whole; first = h.1.first.1; second = h.1.second })
 
-  named_part_from : (ls : List Lexeme) → IsPart (made (λ y. y.1 y.0) (seq a (made (λ y z. f (n z) y) b))) ls → IsPart (made (λ y. f y.0 y.1) (seq (made n a) b)) ls
+  named_part_from : (ls : List Lexeme) → IsPart (made (λ (y : A × (A → C)). y.1 y.0) (seq a (made (λ (y : B) (z : A). f (n z) y) b))) ls → IsPart (made (λ y. f y.0 y.1) (seq (made n a) b)) ls
   named_part_from ls (inl p) = inl p
   named_part_from ls (inr h) = inr (n h.0, record { front = h.1.front; back = h.1.back; whole = h.1.whole; first = (h.0, h.1.first, refl); second = h.1.second })
 
-  pub same_named : SameAs (made (λ y. f y.0 y.1) (seq (made n a) b)) (made (λ y. y.1 y.0) (seq a (made (λ y z. f (n z) y) b)))
+  pub same_named : SameAs (made (λ y. f y.0 y.1) (seq (made n a) b)) (made (λ (y : A × (A → C)). y.1 y.0) (seq a (made (λ (y : B) (z : A). f (n z) y) b)))
   same_named = record { to = named_to; from = named_from; part_to = named_part_to; part_from = named_part_from }
 
 -- the same without a function on the front
@@ -128,7 +128,7 @@ module _ {A B C : Type 0} (a : Grammar A) (b : Grammar (A → B)) (c : Grammar (
   in_front = made (λ x. x.1 x.0) (seq (made (λ x. x.1 x.0) (seq a b)) c)
 
   abbrev pub behind : Grammar C
-  behind = made (λ x. x.1 x.0) (seq a (made (λ x y. x.1 (x.0 y)) (seq b c)))
+  behind = made (λ (x : A × (A → C)). x.1 x.0) (seq a (made (λ (x : (A → B) × (B → C)) (y : A). x.1 (x.0 y)) (seq b c)))
 
   regroup_to : (ls : List Lexeme) (x : C) → Spells in_front ls x → Spells behind ls x
   regroup_to ls x h =
@@ -270,18 +270,18 @@ module _ {A : Type 0} (a b c d e : Grammar A) where
 -- ---- nothing behind
 
 module _ {A B : Type 0} (f : A → B) (a : Grammar A) where
-  ended_to : (ls : List Lexeme) (x : B) → Spells (made f a) ls x → Spells (made (λ y. y.1 y.0) (seq a (made (λ _ z. f z) nothing))) ls x
+  ended_to : (ls : List Lexeme) (x : B) → Spells (made f a) ls x → Spells (made (λ (y : A × (A → B)). y.1 y.0) (seq a (made (λ (_ : Unit {0}) (z : A). f z) nothing))) ls x
   ended_to ls x h = ((h.0, f), record { front = ls; back = []; whole = sym (append-nil ls); first = h.1; second = (tt, refl, refl) }, h.2)
 
-  ended_from : (ls : List Lexeme) (x : B) → Spells (made (λ y. y.1 y.0) (seq a (made (λ _ z. f z) nothing))) ls x → Spells (made f a) ls x
+  ended_from : (ls : List Lexeme) (x : B) → Spells (made (λ (y : A × (A → B)). y.1 y.0) (seq a (made (λ (_ : Unit {0}) (z : A). f z) nothing))) ls x → Spells (made f a) ls x
   ended_from ls x h = (h.0.0, subst (λ s. Spells a s h.0.0) (sym (h.1.whole ∙ ap (λ s. h.1.front ++ s) h.1.second.1 ∙ append-nil h.1.front)) h.1.first, ap (λ (g : A → B). g h.0.0) h.1.second.2 ∙ h.2)
 
-  ended_part_to : (ls : List Lexeme) → IsPart (made f a) ls → IsPart (made (λ y. y.1 y.0) (seq a (made (λ _ z. f z) nothing))) ls
+  ended_part_to : (ls : List Lexeme) → IsPart (made f a) ls → IsPart (made (λ (y : A × (A → B)). y.1 y.0) (seq a (made (λ (_ : Unit {0}) (z : A). f z) nothing))) ls
   ended_part_to ls p = inl p
 
-  ended_part_from : ((ls : List Lexeme) (y : A) → Spells a ls y → IsPart a ls) → (ls : List Lexeme) → IsPart (made (λ y. y.1 y.0) (seq a (made (λ _ z. f z) nothing))) ls → IsPart (made f a) ls
+  ended_part_from : ((ls : List Lexeme) (y : A) → Spells a ls y → IsPart a ls) → (ls : List Lexeme) → IsPart (made (λ (y : A × (A → B)). y.1 y.0) (seq a (made (λ (_ : Unit {0}) (z : A). f z) nothing))) ls → IsPart (made f a) ls
   ended_part_from part ls (inl p) = p
   ended_part_from part ls (inr h) = subst (IsPart a) (sym (h.1.whole ∙ ap (λ s. h.1.front ++ s) h.1.second ∙ append-nil h.1.front)) (part h.1.front h.0 h.1.first)
 
-  pub same_ended : ((ls : List Lexeme) (y : A) → Spells a ls y → IsPart a ls) → SameAs (made f a) (made (λ y. y.1 y.0) (seq a (made (λ _ z. f z) nothing)))
+  pub same_ended : ((ls : List Lexeme) (y : A) → Spells a ls y → IsPart a ls) → SameAs (made f a) (made (λ (y : A × (A → B)). y.1 y.0) (seq a (made (λ (_ : Unit {0}) (z : A). f z) nothing)))
   same_ended part = record { to = ended_to; from = ended_from; part_to = ended_part_to; part_from = ended_part_from part }

@@ -1,0 +1,229 @@
+// Calls, aggregates and expressions at the front of lexemes.
+ghost use Rattle.std.specs.Prelude.{◌≡◌, IfOk};
+ghost use Rattle.vt_grammar.specs.Grammar.{token};
+ghost use Rattle.vt_grammar.specs.Forms.{maybe, some_of, separated};
+ghost use Rattle.vt_grammar.specs.Reading.{read as reading, first, starts};
+ghost use Rattle.vt_grammar.specs.Gives.{Gives};
+ghost use Rattle.vt_grammar.specs.declared.symbol.Symbol.TheVariants as symbol;
+ghost use Rattle.vt_syntax.specs.Words.{identifier};
+ghost use Rattle.vt_syntax.specs.Rules.{code, column, closure, agg, aggregate_with};
+ghost use Rattle.vt_syntax.specs.Inside.Factored.{arg, call, right};
+
+use crate::terms::term;
+use crate::words::identifier;
+use crate::{AggTree, ArgTree, CallTree, CodeTree, RightTree};
+use std::alloc::Global;
+use vt_base::{AggKind, List, NoMemory, Text};
+use vt_grammar::{Lexeme, Member, Stop, Symbol, balanced, is_next, more, one};
+
+// ---- expressions, whose lexemes are kept
+
+// The same lexemes once more.
+fn copies(alloc: Global, lexemes: &[Lexeme]) -> Result<List<Lexeme>, NoMemory>
+    ensures { IfOk result (λ copies. copies ≡ lexemes.now) }
+{
+    let mut copies = List::new(alloc);
+    for lexeme in lexemes {
+        copies.add(Lexeme {
+            symbol: lexeme.symbol,
+            text: lexeme.text.share(),
+            line: lexeme.line,
+        })?;
+    }
+    Ok(copies)
+}
+
+/// A word and what stands in parentheses behind it, and the lexemes after it.
+#[tactic(auto, unfolding(vt_grammar::specs::Reading::read))]
+pub(crate) fn code(
+    alloc: Global,
+    lexemes: &[Lexeme],
+    word: Symbol,
+) -> Result<(CodeTree, &[Lexeme]), Stop>
+    ensures { Gives (λ x. (x.0, x.1.now)) result (reading (code word) lexemes.now) }
+{
+    let (first, rest) = one(lexemes, word)?;
+    let line = first.line;
+    let (_, rest) = one(rest, Symbol::LeftParen)?;
+    let (inner, rest) = balanced(alloc, rest)?;
+    let (_, rest) = one(rest, Symbol::RightParen)?;
+    let lexemes = copies(alloc, inner)?;
+    Ok((CodeTree { line, lexemes }, rest))
+}
+
+// ---- arguments
+
+// A name, where one is next.
+#[tactic(auto, unfolding(vt_grammar::specs::Reading::read))]
+fn maybe_name(lexemes: &[Lexeme]) -> Result<(Option<Text>, &[Lexeme]), Stop>
+    ensures { Gives (λ x. (x.0, x.1.now)) result (reading (maybe identifier) lexemes.now) }
+{
+    if is_next(lexemes, Symbol::Identifier) {
+        let (name, rest) = identifier(lexemes)?;
+        Ok((Some(name), rest))
+    } else {
+        Ok((None, lexemes))
+    }
+}
+
+#[tactic(auto, unfolding(vt_grammar::specs::Reading::read))]
+fn column(lexemes: &[Lexeme]) -> Result<(ArgTree, &[Lexeme]), Stop>
+    ensures { Gives (λ x. (x.0, x.1.now)) result (reading column lexemes.now) }
+{
+    let (_, rest) = one(lexemes, Symbol::Hash)?;
+    let (_, rest) = maybe_name(rest)?;
+    Ok((ArgTree::Column, rest))
+}
+
+#[tactic(auto, unfolding(vt_grammar::specs::Reading::read))]
+fn arg(lexemes: &[Lexeme]) -> Result<(ArgTree, &[Lexeme]), Stop>
+    ensures { Gives (λ x. (x.0, x.1.now)) result (reading arg lexemes.now) }
+{
+    if is_next(lexemes, Symbol::Hash) {
+        column(lexemes)
+    } else {
+        let (term, rest) = term(lexemes)?;
+        Ok((ArgTree::Term(term), rest))
+    }
+}
+
+// An argument behind a comma.
+struct FurtherArg;
+
+impl Member for FurtherArg {
+    ghost use Rattle.std.specs.Prelude.{refl};
+    ghost use Rattle.vt_grammar.specs.Grammar.{token};
+    ghost use Rattle.vt_grammar.specs.Forms.{after};
+    ghost use Rattle.vt_grammar.specs.declared.symbol.Symbol.TheVariants as symbol;
+    ghost use Rattle.vt_syntax.specs.Inside.Factored.{arg};
+
+    type Value = ArgTree;
+
+    ghost grammar = { after (token symbol.Comma) arg };
+
+    ghost decided = { refl };
+
+    fn is_next(lexemes: &[Lexeme]) -> bool {
+        is_next(lexemes, Symbol::Comma)
+    }
+
+    #[tactic(auto, unfolding(vt_grammar::specs::Reading::read))]
+    fn read(_alloc: Global, lexemes: &[Lexeme]) -> Result<(ArgTree, &[Lexeme]), Stop> {
+        let (_, rest) = one(lexemes, Symbol::Comma)?;
+        arg(rest)
+    }
+}
+
+#[tactic(auto, unfolding(vt_grammar::specs::Reading::read))]
+fn args(alloc: Global, lexemes: &[Lexeme]) -> Result<(List<ArgTree>, &[Lexeme]), Stop>
+    ensures { Gives (λ x. (x.0, x.1.now)) result
+        (reading (some_of (separated (token symbol.Comma) arg)) lexemes.now) }
+{
+    let mut args = List::new(alloc);
+    if is_next(lexemes, Symbol::RightParen) {
+        Ok((args, lexemes))
+    } else {
+        let (first, rest) = arg(lexemes)?;
+        args.add(first)?;
+        more::<FurtherArg>(alloc, args, rest)
+    }
+}
+
+// ---- calls
+
+// The line of a `+` or `*`, where one is next.
+#[tactic(auto, unfolding(vt_grammar::specs::Reading::read))]
+fn closure(lexemes: &[Lexeme]) -> Result<(Option<u32>, &[Lexeme]), Stop>
+    ensures { Gives (λ x. (x.0, x.1.now)) result (reading closure lexemes.now) }
+{
+    if is_next(lexemes, Symbol::Plus) {
+        let (mark, rest) = one(lexemes, Symbol::Plus)?;
+        Ok((Some(mark.line), rest))
+    } else if is_next(lexemes, Symbol::Times) {
+        let (mark, rest) = one(lexemes, Symbol::Times)?;
+        Ok((Some(mark.line), rest))
+    } else {
+        Ok((None, lexemes))
+    }
+}
+
+/// The call at the front, and the lexemes after it.
+#[tactic(auto, unfolding(vt_grammar::specs::Reading::read))]
+pub(crate) fn call(alloc: Global, lexemes: &[Lexeme]) -> Result<(CallTree, &[Lexeme]), Stop>
+    ensures { Gives (λ x. (x.0, x.1.now)) result (reading call lexemes.now) }
+{
+    let (pattern, rest) = identifier(lexemes)?;
+    let (closure, rest) = closure(rest)?;
+    let (_, rest) = one(rest, Symbol::LeftParen)?;
+    let (args, rest) = args(alloc, rest)?;
+    let (_, rest) = one(rest, Symbol::RightParen)?;
+    Ok((
+        CallTree {
+            pattern,
+            closure,
+            args,
+        },
+        rest,
+    ))
+}
+
+// ---- what stands to the right of `==`
+
+#[tactic(auto, unfolding(vt_grammar::specs::Reading::read))]
+fn agg(lexemes: &[Lexeme]) -> Result<(AggTree, &[Lexeme]), Stop>
+    ensures { Gives (λ x. (x.0, x.1.now)) result (reading agg lexemes.now) }
+{
+    if is_next(lexemes, Symbol::Sum) {
+        let (_, rest) = one(lexemes, Symbol::Sum)?;
+        Ok((AggTree::Of(AggKind::Sum), rest))
+    } else if is_next(lexemes, Symbol::Min) {
+        let (_, rest) = one(lexemes, Symbol::Min)?;
+        Ok((AggTree::Of(AggKind::Min), rest))
+    } else if is_next(lexemes, Symbol::Max) {
+        let (_, rest) = one(lexemes, Symbol::Max)?;
+        Ok((AggTree::Of(AggKind::Max), rest))
+    } else if is_next(lexemes, Symbol::Avg) {
+        let (word, rest) = one(lexemes, Symbol::Avg)?;
+        Ok((AggTree::Avg(word.line), rest))
+    } else {
+        let (word, rest) = one(lexemes, Symbol::Count)?;
+        Ok((AggTree::Count(word.line), rest))
+    }
+}
+
+// Whether an aggregate is next.
+fn is_agg(lexemes: &[Lexeme]) -> bool
+    ensures { result ≡ starts (first agg) lexemes.now }
+{
+    is_next(lexemes, Symbol::Sum)
+        || is_next(lexemes, Symbol::Min)
+        || is_next(lexemes, Symbol::Max)
+        || is_next(lexemes, Symbol::Avg)
+        || is_next(lexemes, Symbol::Count)
+}
+
+#[tactic(auto, unfolding(vt_grammar::specs::Reading::read))]
+fn aggregate(alloc: Global, lexemes: &[Lexeme]) -> Result<(RightTree, &[Lexeme]), Stop>
+    ensures { Gives (λ x. (x.0, x.1.now)) result (reading (aggregate_with call) lexemes.now) }
+{
+    let (agg, rest) = agg(lexemes)?;
+    let (_, rest) = one(rest, Symbol::Find)?;
+    let (call, rest) = call(alloc, rest)?;
+    Ok((RightTree::Aggregate(agg, call), rest))
+}
+
+/// What stands to the right of `==`, and the lexemes after it.
+#[tactic(auto, unfolding(vt_grammar::specs::Reading::read))]
+pub(crate) fn right(alloc: Global, lexemes: &[Lexeme]) -> Result<(RightTree, &[Lexeme]), Stop>
+    ensures { Gives (λ x. (x.0, x.1.now)) result (reading right lexemes.now) }
+{
+    if is_next(lexemes, Symbol::Eval) {
+        let (code, rest) = code(alloc, lexemes, Symbol::Eval)?;
+        Ok((RightTree::Eval(code), rest))
+    } else if is_agg(lexemes) {
+        aggregate(alloc, lexemes)
+    } else {
+        let (term, rest) = term(lexemes)?;
+        Ok((RightTree::Term(term), rest))
+    }
+}
