@@ -1,7 +1,0 @@
-mod ConstraintLemmas
-mod FileLemmas
-mod MadeLemmas
-mod NarrowLemmas
-mod ReaderLemmas
-mod ScopeLemmas
-mod StandsLemmas

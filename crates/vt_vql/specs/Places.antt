@@ -1,0 +1,21 @@
+-- Lists whose items are taken with their places.
+use Rattle.std.specs.Prelude.{ℕ, ◌+◌, List, [], ◌∷◌, ◌++◌, Bool, if◌then◌else◌, Option, Some, None}
+use Rattle.vt_facts.specs.Parts.{◌>>=◌}
+
+-- the first place whose item passes the test, counted from a number
+abbrev pub first_place : {A : Type 0} → (ℕ → A → Bool) → ℕ → List A → Option ℕ
+first_place test i [] = None
+first_place test i (x ∷ xs) = if test i x then Some i else first_place test (i + 1) xs
+
+-- what is made of each item and its place, and none where one is none
+abbrev pub each_made : {A B : Type 0} → (ℕ → A → Option B) → ℕ → List A → Option (List B)
+each_made make i [] = Some []
+each_made make i (x ∷ xs) = do
+  y ← make i x
+  ys ← each_made make (i + 1) xs
+  Some (y ∷ ys)
+
+-- what each item and its place give, in a row
+abbrev pub each_gives : {A B : Type 0} → (ℕ → A → List B) → ℕ → List A → List B
+each_gives give i [] = []
+each_gives give i (x ∷ xs) = give i x ++ each_gives give (i + 1) xs
