@@ -1,12 +1,15 @@
 -- The program that a file makes over a metamodel.
-use Rattle.std.specs.Prelude.{ℕ, ◌+◌, ◌-◌, ◌&&◌, List, [], ◌∷◌, ◌++◌, map, length, flat_map, Bool, true, false, if◌then◌else◌, Option, Some, None, option_map}
+use Rattle.std.specs.Prelude.{ℕ, ◌-◌, List, [], ◌∷◌, ◌++◌, map, length, Bool, if◌then◌else◌, Option, Some, None, option_map}
 use Rattle.std.specs.List.{flatten}
 use Rattle.vt_facts.specs.Parts.{◌>>=◌}
 use Rattle.vt_base.specs.declared.aggregate.AggKind.{AggKind}
+use Rattle.vt_base.specs.declared.numbers.ClassId.{ClassId}
 use Rattle.vt_base.specs.declared.numbers.PatternId.{PatternId}
 use Rattle.vt_model.specs.Metamodel.{Metamodel, enum_names}
+use Rattle.vt_model.specs.declared.metamodel.Feature.{Feature}
 use Rattle.vt_model.specs.declared.metamodel.Feature.TheVariants as a_feature
 use Rattle.vt_text.specs.declared.tree.ExprTree.{ExprTree}
+use Rattle.vt_text.specs.declared.expr.Expr.{Expr}
 use Rattle.vt_text.specs.Parsing.{slots_of, expr_of}
 use Rattle.vt_query.specs.declared.program.Program.{Program}
 use Rattle.vt_query.specs.declared.program.Pattern.{Pattern}
@@ -35,9 +38,9 @@ use Rattle.vt_syntax.specs.declared.tree.ArgTree.{ArgTree}
 use Rattle.vt_syntax.specs.declared.tree.ArgTree.TheVariants as arg
 use Rattle.vt_syntax.specs.declared.tree.TermTree.{TermTree}
 use Rattle.vt_syntax.specs.declared.tree.TermTree.TheVariants as term
-use Rattle.vt_vql.specs.Places.{each_made}
+use Rattle.vt_vql.specs.Places.{each_made, each_gives}
 use Rattle.vt_vql.specs.Meanings.{Step, type_of, steps_of, value_of, pattern_named}
-use Rattle.vt_vql.specs.Variables.{is_loose, variables_of, number_of}
+use Rattle.vt_vql.specs.Variables.{is_loose, fresh_from, variables_of, number_of}
 use Rattle.vt_vql.specs.declared.variable.Variable.{Variable}
 use Rattle.vt_vql.specs.declared.variable.Variable.TheVariants.{Named, Fresh}
 
@@ -82,9 +85,114 @@ open_arg s arg.Column = Some an_arg.Column
 -- ---- constraints
 
 -- a feature that leads from one term to the other
-abbrev pub link : Step → Term → Term → Constraint
-link step from to = link_by step.feature
-  where
-    link_by : _ → Constraint
-    link_by (a_feature.Attr a) = Attr step.class a from to
-    link_by (a_feature.Ref r) = Ref step.class r from to
+abbrev pub link_by : ClassId → Feature → Term → Term → Constraint
+link_by class (a_feature.Attr a) from to = Attr class a from to
+link_by class (a_feature.Ref r) from to = Ref class r from to
+
+-- those of a path: each step leads from a term to the next
+abbrev pub links : List Step → Term → List Term → List Constraint
+links (step ∷ steps) from (to ∷ terms) = link_by step.class step.feature from to ∷ links steps to terms
+links steps from terms = []
+
+-- the variables between the features of a path
+abbrev pub between : Scope → ℕ → List (List ℕ) → List Term
+between s i features = map (variable s) (fresh_from i 1 (length features - 1))
+
+-- an expression over the variables of its slots
+pub record Meant : Type 0 where
+  pub expr : Expr
+  pub slots : List ℕ
+
+abbrev pub meant_by : Scope → ExprTree → Option Meant
+meant_by s e =
+    option_map (λ x. record { expr = x; slots = map (λ slot. number_of s.variables (Named slot.name)) (slots_of e) })
+    (expr_of (enum_names s.meta) (slots_of e) e)
+
+abbrev pub meant : Scope → Option ExprTree → Option Meant
+meant s code = code >>= meant_by s
+
+-- what a term must be equal to
+abbrev pub equal_to : Scope → ℕ → Term → RightTree → Option Constraint
+equal_to s i t (right.Term u) = option_map (Equal t) (term_at s i 1 u)
+equal_to s i t (right.Eval code) = option_map (λ m. Eval t m.expr m.slots) (meant s code.expr)
+equal_to s i t (right.Aggregate (Of kind) call) = do
+  p ← pattern_named s.patterns call.pattern
+  args ← all_of (open_arg s) call.args
+  Some (Agg kind t p args)
+equal_to s i t (right.Aggregate agg call) = None
+
+-- what the constraint at a place makes: a path makes one for each of its features
+abbrev pub constraints_of : Scope → ℕ → ConstraintTree → Option (List Constraint)
+constraints_of s i (tree.Find call) = do
+  p ← pattern_named s.patterns call.pattern
+  args ← each_made (find_arg s i) 0 call.args
+  Some (Find p args ∷ [])
+constraints_of s i (tree.Neg call) = do
+  p ← pattern_named s.patterns call.pattern
+  args ← all_of (open_arg s) call.args
+  Some (Neg p args ∷ [])
+constraints_of s i (tree.Check code) = option_map (λ m. Check m.expr m.slots ∷ []) (meant s code.expr)
+constraints_of s i (tree.Type ty t) = do
+  kind ← type_of s.meta ty
+  u ← term_at s i 0 t
+  Some (Is kind u ∷ [])
+constraints_of s i (tree.Path class features from to) = do
+  steps ← steps_of s.meta class features
+  t ← term_at s i 0 from
+  u ← term_at s i (length features) to
+  Some (links steps t (between s i features ++ u ∷ []))
+constraints_of s i (tree.Equal a b) = do
+  t ← term_at s i 0 a
+  c ← equal_to s i t b
+  Some (c ∷ [])
+constraints_of s i (tree.Differ a b) = do
+  t ← term_at s i 0 a
+  u ← term_at s i 1 b
+  Some (Differ t u ∷ [])
+
+-- ---- parameters
+
+-- a declared type
+abbrev pub declared_type : Metamodel → Option TypeTree → Option (Option Ty)
+declared_type meta None = Some None
+declared_type meta (Some ty) = option_map Some (type_of meta ty)
+
+abbrev pub param_of : Metamodel → ParamTree → Option Param
+param_of meta p = option_map (λ ty. record { name = p.name; ty = ty }) (declared_type meta p.ty)
+
+-- it is one more constraint of each body, of the parameter with this number
+abbrev pub asked_type : ℕ → Option Ty → List Constraint
+asked_type i None = []
+asked_type i (Some ty) = Is ty (Var i) ∷ []
+
+abbrev pub asked : ℕ → Param → List Constraint
+asked i p = asked_type i p.ty
+
+-- ---- bodies and patterns
+
+abbrev pub scope_of : Metamodel → List PatternTree → List ParamTree → BodyTree → Scope
+scope_of meta patterns params body = record {
+  meta = meta;
+  patterns = patterns;
+  variables = variables_of params body;
+  loose = is_loose params body;
+}
+
+-- the declared types come first, and then the constraints in their order
+abbrev pub body_of : Metamodel → List PatternTree → List ParamTree → List Param → BodyTree → Option Body
+body_of meta patterns params typed body =
+    option_map (λ made. record {
+      vars = length (variables_of params body);
+      constraints = each_gives asked 0 typed ++ flatten made;
+    }) (each_made (constraints_of (scope_of meta patterns params body)) 0 body.constraints)
+
+abbrev pub pattern_of : Metamodel → List PatternTree → PatternTree → Option Pattern
+pattern_of meta patterns p = do
+  params ← all_of (param_of meta) p.params
+  bodies ← all_of (body_of meta patterns p.params params) p.bodies
+  Some (record { name = p.name; shown = p.shown; params = params; bodies = bodies })
+
+-- the patterns of the file, each numbered by its place
+unfoldable pub program_of : Metamodel → FileTree → Option Program
+program_of meta file =
+    option_map (λ patterns. record { patterns = patterns }) (all_of (pattern_of meta file.patterns) file.patterns)

@@ -1,0 +1,2 @@
+-- No public clause cites a module below.
+pub mod Resolved
