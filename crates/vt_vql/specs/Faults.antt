@@ -24,7 +24,7 @@ use Rattle.vt_syntax.specs.declared.tree.ArgTree.{ArgTree}
 use Rattle.vt_syntax.specs.declared.tree.ArgTree.TheVariants as arg
 use Rattle.vt_syntax.specs.declared.tree.TermTree.{TermTree}
 use Rattle.vt_syntax.specs.declared.tree.TermTree.TheVariants as term
-use Rattle.vt_vql.specs.Places.{first_place}
+use Rattle.vt_meta.specs.Faults.{first_place}
 use Rattle.vt_vql.specs.Meanings.{type_of, steps_of, value_of, is_named, pattern_named, params_named, or_else}
 use Rattle.vt_vql.specs.Variables.{variables_of}
 use Rattle.vt_vql.specs.declared.fault.Form.{Form}
@@ -73,10 +73,14 @@ constraint_forms (Path class features from to) = []
 constraint_forms (Equal a b) = right_forms b
 constraint_forms (Differ a b) = []
 
+abbrev pub param_forms : ParamTree → List QueryFault
+param_forms p = declared_forms p.ty
+
+abbrev pub body_forms : BodyTree → List QueryFault
+body_forms b = flat_map constraint_forms b.constraints
+
 abbrev pub pattern_forms : PatternTree → List QueryFault
-pattern_forms p =
-    flat_map (λ (q : ParamTree). declared_forms q.ty) p.params
-    ++ flat_map (λ (b : BodyTree). flat_map constraint_forms b.constraints) p.bodies
+pattern_forms p = flat_map param_forms p.params ++ flat_map body_forms p.bodies
 
 -- ---- imports and duplicates
 
@@ -127,10 +131,14 @@ abbrev pub knows_declared : Metamodel → Option TypeTree → Bool
 knows_declared meta None = true
 knows_declared meta (Some ty) = is_some (type_of meta ty)
 
+abbrev pub knows_param : Metamodel → ParamTree → Bool
+knows_param meta p = knows_declared meta p.ty
+
+abbrev pub knows_body : Metamodel → List PatternTree → BodyTree → Bool
+knows_body meta patterns b = list_all (knows meta patterns) b.constraints
+
 abbrev pub knows_pattern : Metamodel → List PatternTree → PatternTree → Bool
-knows_pattern meta patterns p =
-    list_all (λ (q : ParamTree). knows_declared meta q.ty) p.params
-    && list_all (λ (b : BodyTree). list_all (knows meta patterns) b.constraints) p.bodies
+knows_pattern meta patterns p = list_all (knows_param meta) p.params && list_all (knows_body meta patterns) p.bodies
 
 abbrev pub has_unknown_name : Metamodel → List PatternTree → ℕ → PatternTree → Bool
 has_unknown_name meta patterns i p = not (knows_pattern meta patterns p)
@@ -162,8 +170,11 @@ has_arity patterns (Neg call) = has_args patterns 0 call
 has_arity patterns (Equal a b) = right_arity patterns b
 has_arity patterns c = true
 
+abbrev pub body_arity : List PatternTree → BodyTree → Bool
+body_arity patterns b = list_all (has_arity patterns) b.constraints
+
 abbrev pub has_wrong_arity : List PatternTree → ℕ → PatternTree → Bool
-has_wrong_arity patterns i p = not (list_all (λ (b : BodyTree). list_all (has_arity patterns) b.constraints) p.bodies)
+has_wrong_arity patterns i p = not (list_all (body_arity patterns) p.bodies)
 
 -- ---- limits
 
@@ -172,10 +183,14 @@ abbrev pub size_of : ConstraintTree → ℕ
 size_of (Path class features from to) = length features
 size_of c = 1
 
+-- how many parameters are declared with a type
+abbrev pub typed_count : List ParamTree → ℕ
+typed_count params = count_by (λ (q : ParamTree). is_some q.ty) params
+
 -- at most 128 constraints, the declared types among them, and 64 variables
 abbrev pub is_small_body : List ParamTree → BodyTree → Bool
 is_small_body params b =
-    nat_le (count_by (λ (q : ParamTree). is_some q.ty) params + sum_by size_of b.constraints) 128
+    nat_le (typed_count params + sum_by size_of b.constraints) 128
     && nat_le (length (variables_of params b)) 64
 
 -- at most 16 parameters and 32 bodies

@@ -1,2 +1,3 @@
 -- No public clause cites a module below.
 pub mod Resolved
+pub mod Tables

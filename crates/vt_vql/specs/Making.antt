@@ -1,6 +1,5 @@
 -- The program that a file makes over a metamodel.
-use Rattle.std.specs.Prelude.{ℕ, ◌-◌, List, [], ◌∷◌, ◌++◌, map, length, Bool, if◌then◌else◌, Option, Some, None, option_map}
-use Rattle.std.specs.List.{flatten}
+use Rattle.std.specs.Prelude.{ℕ, ◌-◌, List, [], ◌∷◌, ◌++◌, map, flat_map, length, Bool, if◌then◌else◌, Option, Some, None, option_map}
 use Rattle.vt_facts.specs.Parts.{◌>>=◌}
 use Rattle.vt_base.specs.declared.aggregate.AggKind.{AggKind}
 use Rattle.vt_base.specs.declared.numbers.ClassId.{ClassId}
@@ -39,8 +38,9 @@ use Rattle.vt_syntax.specs.declared.tree.ArgTree.TheVariants as arg
 use Rattle.vt_syntax.specs.declared.tree.TermTree.{TermTree}
 use Rattle.vt_syntax.specs.declared.tree.TermTree.TheVariants as term
 use Rattle.vt_vql.specs.Places.{each_made, each_gives}
-use Rattle.vt_vql.specs.Meanings.{Step, type_of, steps_of, value_of, pattern_named}
+use Rattle.vt_vql.specs.Meanings.{type_of, steps_of, value_of, pattern_named}
 use Rattle.vt_vql.specs.Variables.{is_loose, fresh_from, variables_of, number_of}
+use Rattle.vt_vql.specs.declared.meanings.Step.{Step}
 use Rattle.vt_vql.specs.declared.variable.Variable.{Variable}
 use Rattle.vt_vql.specs.declared.variable.Variable.TheVariants.{Named, Fresh}
 
@@ -183,7 +183,7 @@ abbrev pub body_of : Metamodel → List PatternTree → List ParamTree → List 
 body_of meta patterns params typed body =
     option_map (λ made. record {
       vars = length (variables_of params body);
-      constraints = each_gives asked 0 typed ++ flatten made;
+      constraints = each_gives asked 0 typed ++ flat_map (λ cs. cs) made;
     }) (each_made (constraints_of (scope_of meta patterns params body)) 0 body.constraints)
 
 abbrev pub pattern_of : Metamodel → List PatternTree → PatternTree → Option Pattern

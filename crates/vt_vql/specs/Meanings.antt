@@ -14,6 +14,7 @@ use Rattle.vt_model.specs.declared.metamodel.Feature.{Feature}
 use Rattle.vt_model.specs.declared.metamodel.Feature.TheVariants.{Attr, Ref}
 use Rattle.vt_query.specs.declared.program.Ty.{Ty}
 use Rattle.vt_query.specs.declared.program.Ty.TheVariants as ty
+use Rattle.vt_vql.specs.declared.meanings.Step.{Step}
 use Rattle.vt_syntax.specs.declared.tree.PatternTree.{PatternTree}
 use Rattle.vt_syntax.specs.declared.tree.TypeTree.{TypeTree}
 use Rattle.vt_syntax.specs.declared.tree.TypeTree.TheVariants.{Named, Java}
@@ -48,10 +49,12 @@ type_of meta (Java line) = None
 
 -- ---- paths
 
--- a class, and a feature that it has
-pub record Step : Type 0 where
-  pub class : ClassId
-  pub feature : Feature
+-- the feature of this name of a class, where there are both
+abbrev pub step_at : Metamodel → Option ClassId → List ℕ → Option Step
+step_at meta class name = do
+  c ← class
+  f ← feature meta c name
+  Some (record { class = c; feature = f })
 
 -- the class that is asked for the next feature of a path: a reference leads to its target, and an
 -- attribute to none
@@ -63,10 +66,9 @@ leads_to meta (Ref r) = option_map (λ info. info.target) (slice_get meta.refere
 abbrev pub steps_from : Metamodel → Option ClassId → List (List ℕ) → Option (List Step)
 steps_from meta class [] = Some []
 steps_from meta class (name ∷ names) = do
-  c ← class
-  f ← feature meta c name
-  steps ← steps_from meta (leads_to meta f) names
-  Some (record { class = c; feature = f } ∷ steps)
+  step ← step_at meta class name
+  steps ← steps_from meta (leads_to meta step.feature) names
+  Some (step ∷ steps)
 
 -- a path begins with a class
 abbrev pub steps_of : Metamodel → List ℕ → List (List ℕ) → Option (List Step)

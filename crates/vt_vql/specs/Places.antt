@@ -1,11 +1,6 @@
 -- Lists whose items are taken with their places.
-use Rattle.std.specs.Prelude.{ℕ, ◌+◌, List, [], ◌∷◌, ◌++◌, Bool, if◌then◌else◌, Option, Some, None}
+use Rattle.std.specs.Prelude.{ℕ, ◌+◌, List, [], ◌∷◌, ◌++◌, Option, Some, None}
 use Rattle.vt_facts.specs.Parts.{◌>>=◌}
-
--- the first place whose item passes the test, counted from a number
-abbrev pub first_place : {A : Type 0} → (ℕ → A → Bool) → ℕ → List A → Option ℕ
-first_place test i [] = None
-first_place test i (x ∷ xs) = if test i x then Some i else first_place test (i + 1) xs
 
 -- what is made of each item and its place, and none where one is none
 abbrev pub each_made : {A B : Type 0} → (ℕ → A → Option B) → ℕ → List A → Option (List B)
@@ -19,3 +14,8 @@ each_made make i (x ∷ xs) = do
 abbrev pub each_gives : {A B : Type 0} → (ℕ → A → List B) → ℕ → List A → List B
 each_gives give i [] = []
 each_gives give i (x ∷ xs) = give i x ++ each_gives give (i + 1) xs
+
+-- the one item, or none
+abbrev pub as_list : {A : Type 0} → Option A → List A
+as_list None = []
+as_list (Some x) = x ∷ []

@@ -14,7 +14,7 @@ use Rattle.vt_syntax.specs.declared.tree.ArgTree.{ArgTree}
 use Rattle.vt_syntax.specs.declared.tree.ArgTree.TheVariants as arg
 use Rattle.vt_syntax.specs.declared.tree.TermTree.{TermTree}
 use Rattle.vt_syntax.specs.declared.tree.TermTree.TheVariants as term
-use Rattle.vt_vql.specs.Places.{each_gives}
+use Rattle.vt_vql.specs.Places.{each_gives, as_list}
 use Rattle.vt_vql.specs.declared.variable.Variable.{Variable}
 use Rattle.vt_vql.specs.declared.variable.Variable.TheVariants.{Named, Fresh}
 
@@ -74,10 +74,14 @@ is_variable (Fresh i j) (Fresh k l) = i == k && j == l
 is_variable v w = false
 
 -- the variable of a term at a place, where it is one
-abbrev pub variable_at : ℕ → ℕ → TermTree → List Variable
-variable_at i j (term.Variable name) = Named name ∷ []
-variable_at i j term.Blank = Fresh i j ∷ []
-variable_at i j t = []
+abbrev pub variable_at : ℕ → ℕ → TermTree → Option Variable
+variable_at i j (term.Variable name) = Some (Named name)
+variable_at i j term.Blank = Some (Fresh i j)
+variable_at i j t = None
+
+-- it, or none
+abbrev pub term_variables : ℕ → ℕ → TermTree → List Variable
+term_variables i j t = as_list (variable_at i j t)
 
 -- so many in a row
 abbrev pub fresh_from : ℕ → ℕ → ℕ → List Variable
@@ -86,7 +90,7 @@ fresh_from i j (suc n) = Fresh i j ∷ fresh_from i (j + 1) n
 
 -- an argument that must have one value; `#` has none
 abbrev pub find_variable : ℕ → ℕ → ArgTree → List Variable
-find_variable i j (arg.Term t) = variable_at i j t
+find_variable i j (arg.Term t) = term_variables i j t
 find_variable i j arg.Column = []
 
 -- an argument that agrees with each value, or must have one
@@ -101,7 +105,7 @@ expr_variables (Some e) = map (λ s. Named s.name) (slots_of e)
 
 -- what stands to the right of `==`
 abbrev pub right_variables : (List ℕ → Bool) → ℕ → RightTree → List Variable
-right_variables loose i (right.Term t) = variable_at i 1 t
+right_variables loose i (right.Term t) = term_variables i 1 t
 right_variables loose i (right.Eval code) = expr_variables code.expr
 right_variables loose i (right.Aggregate agg call) = flat_map (open_variable loose) call.args
 
@@ -110,11 +114,11 @@ abbrev pub variables_in : (List ℕ → Bool) → ℕ → ConstraintTree → Lis
 variables_in loose i (Find call) = each_gives (find_variable i) 0 call.args
 variables_in loose i (Neg call) = flat_map (open_variable loose) call.args
 variables_in loose i (Check code) = expr_variables code.expr
-variables_in loose i (Type ty t) = variable_at i 0 t
+variables_in loose i (Type ty t) = term_variables i 0 t
 variables_in loose i (Path class features from to) =
-    variable_at i 0 from ++ fresh_from i 1 (length features - 1) ++ variable_at i (length features) to
-variables_in loose i (Equal a b) = variable_at i 0 a ++ right_variables loose i b
-variables_in loose i (Differ a b) = variable_at i 0 a ++ variable_at i 1 b
+    term_variables i 0 from ++ fresh_from i 1 (length features - 1) ++ term_variables i (length features) to
+variables_in loose i (Equal a b) = term_variables i 0 a ++ right_variables loose i b
+variables_in loose i (Differ a b) = term_variables i 0 a ++ term_variables i 1 b
 
 -- each variable once, where it first stands
 abbrev pub distinct : List Variable → List Variable

@@ -1,7 +1,7 @@
 // The variables of constraints, in the order of the file.
-ghost use Rattle.std.specs.Prelude.{◌≡◌, ◌++◌, ◌+◌, ◌-◌, ◌<◌, ◌≤◌, ◌^◌, OnOk, IfOk, MatchOption, map, flat_map, length};
+ghost use Rattle.std.specs.Prelude.{◌≡◌, ℕ, List, ◌++◌, ◌+◌, ◌-◌, ◌<◌, ◌≤◌, ◌^◌, OnOk, IfOk, MatchOption, map, flat_map, length};
 ghost use Rattle.vt_vql.specs.Places.{each_gives};
-ghost use Rattle.vt_vql.specs.Variables.{variable_at, fresh_from, find_variable, open_variable, expr_variables, right_variables, variables_in, variables_of};
+ghost use Rattle.vt_vql.specs.Variables.{variable_at, term_variables, fresh_from, find_variable, open_variable, expr_variables, right_variables, variables_in, is_loose, variables_of};
 ghost use Rattle.vt_vql.specs.Inside.Resolved.{tells};
 ghost use Rattle.vt_vql.specs.declared.variable.Variable.TheVariants.{Named};
 
@@ -14,7 +14,7 @@ use vt_text::{ExprTree, slots_of};
 
 /// The variable of the term at a place, where it is one.
 pub(crate) fn variable_at(i: usize, j: usize, term: &TermTree) -> Option<Variable>
-    ensures { option_list result ≡ variable_at i j term.now }
+    ensures { result ≡ variable_at i j term.now }
 {
     match term {
         TermTree::Variable(name) => Some(Variable::Named(name.share())),
@@ -29,7 +29,7 @@ fn add_term(
     j: usize,
     term: &TermTree,
 ) -> Result<(), NoMemory>
-    ensures { OnOk result (all.new ≡ all.old ++ variable_at i j term.now) }
+    ensures { OnOk result (all.new ≡ all.old ++ term_variables i j term.now) }
 {
     if let Some(variable) = variable_at(i, j, term) {
         all.add(variable)?;
