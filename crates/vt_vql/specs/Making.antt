@@ -3,12 +3,12 @@ use Rattle.std.specs.Prelude.{ℕ, ◌-◌, List, [], ◌∷◌, ◌++◌, map, 
 use Rattle.vt_facts.specs.Parts.{◌>>=◌}
 use Rattle.vt_base.specs.declared.aggregate.AggKind.{AggKind}
 use Rattle.vt_base.specs.declared.numbers.ClassId.{ClassId}
-use Rattle.vt_base.specs.declared.numbers.PatternId.{PatternId}
+use Rattle.vt_base.specs.declared.value.Value.{Value}
 use Rattle.vt_model.specs.Metamodel.{Metamodel, enum_names}
 use Rattle.vt_model.specs.declared.metamodel.Feature.{Feature}
 use Rattle.vt_model.specs.declared.metamodel.Feature.TheVariants as a_feature
 use Rattle.vt_text.specs.declared.tree.ExprTree.{ExprTree}
-use Rattle.vt_text.specs.declared.expr.Expr.{Expr}
+use Rattle.vt_text.specs.declared.tree.Slot.{Slot}
 use Rattle.vt_text.specs.Parsing.{slots_of, expr_of}
 use Rattle.vt_query.specs.declared.program.Program.{Program}
 use Rattle.vt_query.specs.declared.program.Pattern.{Pattern}
@@ -39,7 +39,8 @@ use Rattle.vt_syntax.specs.declared.tree.TermTree.{TermTree}
 use Rattle.vt_syntax.specs.declared.tree.TermTree.TheVariants as term
 use Rattle.vt_vql.specs.Places.{each_made, each_gives}
 use Rattle.vt_vql.specs.Meanings.{type_of, steps_of, value_of, pattern_named}
-use Rattle.vt_vql.specs.Variables.{is_loose, fresh_from, variables_of, number_of}
+use Rattle.vt_vql.specs.Variables.{is_loose, variable_at, fresh_from, variables_of, number_of}
+use Rattle.vt_vql.specs.declared.expressions.Meant.{Meant}
 use Rattle.vt_vql.specs.declared.meanings.Step.{Step}
 use Rattle.vt_vql.specs.declared.variable.Variable.{Variable}
 use Rattle.vt_vql.specs.declared.variable.Variable.TheVariants.{Named, Fresh}
@@ -65,21 +66,31 @@ all_of f (x ∷ xs) = do
 abbrev pub variable : Scope → Variable → Term
 variable s v = Var (number_of s.variables v)
 
+-- a variable, or else a value
+abbrev pub term_of : Scope → Option Variable → Option Value → Option Term
+term_of s (Some v) value = Some (variable s v)
+term_of s None value = option_map Const value
+
 -- the term at a place of the constraint at a place
 abbrev pub term_at : Scope → ℕ → ℕ → TermTree → Option Term
-term_at s i j (term.Variable name) = Some (variable s (Named name))
-term_at s i j term.Blank = Some (variable s (Fresh i j))
-term_at s i j t = option_map Const (value_of s.meta t)
+term_at s i j t = term_of s (variable_at i j t) (value_of s.meta t)
 
 abbrev pub find_arg : Scope → ℕ → ℕ → ArgTree → Option Term
 find_arg s i j (arg.Term t) = term_at s i j t
 find_arg s i j arg.Column = None
 
+-- a variable that agrees with each value where it is read as `_`
+abbrev pub open_variable : Scope → List ℕ → Arg
+open_variable s name = if s.loose name then an_arg.Any else an_arg.Term (variable s (Named name))
+
+abbrev pub value_arg : Scope → TermTree → Option Arg
+value_arg s t = option_map (λ v. an_arg.Term (Const v)) (value_of s.meta t)
+
 -- where several rows are asked for, `_` agrees with each value
 abbrev pub open_arg : Scope → ArgTree → Option Arg
-open_arg s (arg.Term (term.Variable name)) = Some (if s.loose name then an_arg.Any else an_arg.Term (variable s (Named name)))
+open_arg s (arg.Term (term.Variable name)) = Some (open_variable s name)
 open_arg s (arg.Term term.Blank) = Some an_arg.Any
-open_arg s (arg.Term t) = option_map (λ v. an_arg.Term (Const v)) (value_of s.meta t)
+open_arg s (arg.Term t) = value_arg s t
 open_arg s arg.Column = Some an_arg.Column
 
 -- ---- constraints
@@ -98,57 +109,84 @@ links steps from terms = []
 abbrev pub between : Scope → ℕ → List (List ℕ) → List Term
 between s i features = map (variable s) (fresh_from i 1 (length features - 1))
 
--- an expression over the variables of its slots
-pub record Meant : Type 0 where
-  pub expr : Expr
-  pub slots : List ℕ
+-- ---- expressions
+
+-- the numbers of the variables in the slots of an expression
+abbrev pub slot_numbers : Scope → List Slot → List ℕ
+slot_numbers s slots = map (λ slot. number_of s.variables (Named slot.name)) slots
 
 abbrev pub meant_by : Scope → ExprTree → Option Meant
 meant_by s e =
-    option_map (λ x. record { expr = x; slots = map (λ slot. number_of s.variables (Named slot.name)) (slots_of e) })
+    option_map (λ x. record { expr = x; slots = slot_numbers s (slots_of e) })
     (expr_of (enum_names s.meta) (slots_of e) e)
 
 abbrev pub meant : Scope → Option ExprTree → Option Meant
 meant s code = code >>= meant_by s
 
--- what a term must be equal to
-abbrev pub equal_to : Scope → ℕ → Term → RightTree → Option Constraint
-equal_to s i t (right.Term u) = option_map (Equal t) (term_at s i 1 u)
-equal_to s i t (right.Eval code) = option_map (λ m. Eval t m.expr m.slots) (meant s code.expr)
-equal_to s i t (right.Aggregate (Of kind) call) = do
-  p ← pattern_named s.patterns call.pattern
-  args ← all_of (open_arg s) call.args
-  Some (Agg kind t p args)
-equal_to s i t (right.Aggregate agg call) = None
-
--- what the constraint at a place makes: a path makes one for each of its features
-abbrev pub constraints_of : Scope → ℕ → ConstraintTree → Option (List Constraint)
-constraints_of s i (tree.Find call) = do
-  p ← pattern_named s.patterns call.pattern
-  args ← each_made (find_arg s i) 0 call.args
-  Some (Find p args ∷ [])
-constraints_of s i (tree.Neg call) = do
-  p ← pattern_named s.patterns call.pattern
-  args ← all_of (open_arg s) call.args
-  Some (Neg p args ∷ [])
-constraints_of s i (tree.Check code) = option_map (λ m. Check m.expr m.slots ∷ []) (meant s code.expr)
-constraints_of s i (tree.Type ty t) = do
-  kind ← type_of s.meta ty
-  u ← term_at s i 0 t
-  Some (Is kind u ∷ [])
-constraints_of s i (tree.Path class features from to) = do
+-- a path makes a constraint for each of its features
+abbrev pub path_made : Scope → ℕ → List ℕ → List (List ℕ) → TermTree → TermTree → Option (List Constraint)
+path_made s i class features from to = do
   steps ← steps_of s.meta class features
   t ← term_at s i 0 from
   u ← term_at s i (length features) to
   Some (links steps t (between s i features ++ u ∷ []))
-constraints_of s i (tree.Equal a b) = do
+
+-- what a term must be equal to
+abbrev pub aggregate_made : Scope → AggKind → Term → CallTree → Option Constraint
+aggregate_made s kind t call = do
+  p ← pattern_named s.patterns call.pattern
+  args ← all_of (open_arg s) call.args
+  Some (Agg kind t p args)
+
+abbrev pub equal_to : Scope → ℕ → Term → RightTree → Option Constraint
+equal_to s i t (right.Term u) = option_map (Equal t) (term_at s i 1 u)
+equal_to s i t (right.Eval code) = option_map (λ m. Eval t m.expr m.slots) (meant s code.expr)
+equal_to s i t (right.Aggregate (Of kind) call) = aggregate_made s kind t call
+equal_to s i t (right.Aggregate agg call) = None
+
+abbrev pub find_made : Scope → ℕ → CallTree → Option Constraint
+find_made s i call = do
+  p ← pattern_named s.patterns call.pattern
+  args ← each_made (find_arg s i) 0 call.args
+  Some (Find p args)
+
+abbrev pub neg_made : Scope → CallTree → Option Constraint
+neg_made s call = do
+  p ← pattern_named s.patterns call.pattern
+  args ← all_of (open_arg s) call.args
+  Some (Neg p args)
+
+abbrev pub type_made : Scope → ℕ → TypeTree → TermTree → Option Constraint
+type_made s i ty t = do
+  kind ← type_of s.meta ty
+  u ← term_at s i 0 t
+  Some (Is kind u)
+
+abbrev pub equal_made : Scope → ℕ → TermTree → RightTree → Option Constraint
+equal_made s i a b = do
   t ← term_at s i 0 a
-  c ← equal_to s i t b
-  Some (c ∷ [])
-constraints_of s i (tree.Differ a b) = do
+  equal_to s i t b
+
+abbrev pub differ_made : Scope → ℕ → TermTree → TermTree → Option Constraint
+differ_made s i a b = do
   t ← term_at s i 0 a
   u ← term_at s i 1 b
-  Some (Differ t u ∷ [])
+  Some (Differ t u)
+
+-- any other makes one
+abbrev pub single_made : Scope → ℕ → ConstraintTree → Option Constraint
+single_made s i (tree.Find call) = find_made s i call
+single_made s i (tree.Neg call) = neg_made s call
+single_made s i (tree.Check code) = option_map (λ m. Check m.expr m.slots) (meant s code.expr)
+single_made s i (tree.Type ty t) = type_made s i ty t
+single_made s i (tree.Equal a b) = equal_made s i a b
+single_made s i (tree.Differ a b) = differ_made s i a b
+single_made s i (tree.Path class features from to) = None
+
+-- what the constraint at a place makes
+abbrev pub constraints_of : Scope → ℕ → ConstraintTree → Option (List Constraint)
+constraints_of s i (tree.Path class features from to) = path_made s i class features from to
+constraints_of s i t = option_map (λ c. c ∷ []) (single_made s i t)
 
 -- ---- parameters
 

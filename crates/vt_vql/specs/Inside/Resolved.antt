@@ -20,3 +20,8 @@ MakesWithin (Err NoMemory) small made = Unit {0}
 -- whether a name is read as `_`, by what was seen of a body
 abbrev pub tells : Seen → List ℕ → Bool
 tells seen name = is_some (place_in seen.once name) && (not (is_some (place_in seen.twice name)) && not (is_some (place_in seen.params name)))
+
+-- what a list is, where it was added to
+abbrev pub adds : {A : Type 0} → Result (Unit {0}) Stuck → A → Result A Stuck
+adds (Ok done) x = Ok x
+adds (Err stuck) x = Err stuck
