@@ -44,13 +44,13 @@ impl<T> Chunk<T> {
         Ok(Chunk { items })
     }
 
-    /// A chunk of items that have their block.
-    pub fn from_vec(items: Vec<T>) -> Chunk<T>
-        requires block { 64 ≤ vec_capacity items }
-        requires fits { vec_len items ≤ 64 }
-        ensures { result ≡ items.items }
+    /// Takes all items of a vector to an empty chunk.
+    pub fn take_all(&mut self, items: &mut Vec<T>)
+        requires empty { self.old ≡ [] }
+        requires fits { vec_len items.old ≤ 64 }
+        ensures { self.new ≡ items.old.items }
     {
-        Chunk { items }
+        self.items.append(items).unwrap()
     }
 
     pub fn len(&self) -> usize
@@ -91,14 +91,6 @@ impl<T> Chunk<T> {
         self.items.remove(at)
     }
 
-    /// Lets go of all items.
-    pub fn clear(&mut self)
-    where
-        T: Drop,
-        ensures { self.new ≡ [] }
-    {
-        self.items.clear()
-    }
 
     /// Takes all items of another chunk to the end, where there is room.
     pub fn join(&mut self, other: &mut Chunk<T>)

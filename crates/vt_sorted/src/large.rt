@@ -7,7 +7,8 @@ ghost use Rattle.std.specs.List.Sorted.{IsStrictlySortedBy};
 ghost use Rattle.vt_sorted.specs.Ascending.{has, with_item, without_item, items_after, items_from};
 ghost use Rattle.vt_sorted.specs.Inside.Pieces.{joined, IsFilled, IsPlace, IsEndPlace, StandsIn, GoesIn};
 
-use crate::chunk::{CHUNK, Chunk, HALF};
+use crate::chunk::{Chunk, HALF};
+use crate::chunks::Chunks;
 use crate::front::UpTo;
 use crate::pieces::{fill, make_room, put, take};
 use crate::{Front, NoMemory, Walk};
@@ -20,14 +21,13 @@ const LIMIT: usize = 1 << 63;
 /// Chunks in ascending order, of which only the first may be empty, and free ones.
 #[derive(Debug, Drop)]
 pub(crate) struct Large<T: Ord> {
-    used: Vec<Chunk<T>>,
-    free: Vec<Chunk<T>>,
+    chunks: Chunks<T>,
     count: usize,
     alloc: Global,
 }
 
 impl<T: Ord> Model for Large<T> {
-    ghost use Rattle.std.specs.Prelude.{vec_len, vec_capacity, min, ◌-◌, ◌^◌};
+    ghost use Rattle.std.specs.Prelude.{min, ◌-◌, ◌^◌};
     ghost use Rattle.vt_facts.specs.Room.{Room};
     ghost use Rattle.vt_facts.specs.Inside.Coding.{room_code};
     ghost use Rattle.vt_sorted.specs.Inside.Pieces.{joined, room, IsLarge};
@@ -36,9 +36,9 @@ impl<T: Ord> Model for Large<T> {
 
     ghost coded = { room_code T.code };
 
-    ghost view = { λ s. record { items = joined s.used.items; spare = min (room s.used.items (vec_len s.free)) (2 ^ 63 - s.count) } };
+    ghost view = { λ s. record { items = joined s.chunks.items; spare = min (room s.chunks.items s.chunks.spare) (2 ^ 63 - s.count) } };
 
-    ghost invariant = { λ s. IsLarge T.cmp s.used.items (vec_len s.used) (vec_capacity s.used) (vec_len s.free) (vec_capacity s.free) s.count };
+    ghost invariant = { λ s. IsLarge T.cmp s.chunks.items s.count };
 }
 
 impl<T: Ord> Large<T> {
@@ -46,7 +46,7 @@ impl<T: Ord> Large<T> {
     pub fn contains(&self, item: &T) -> bool
         ensures { result ≡ has T.cmp self.now.items item.now }
     {
-        locate(&self.used, item).is_ok()
+        locate(self.chunks.as_slice(), item).is_ok()
     }
 
     pub fn len(&self) -> usize
@@ -60,16 +60,16 @@ impl<T: Ord> Large<T> {
         ensures items { result ≡ self.now.items }
         ensures ascends { IsStrictlySortedBy T.cmp self.now.items }
     {
-        Walk::over(&[], &self.used)
+        Walk::over(&[], self.chunks.as_slice())
     }
 
     /// The items from a given one on, in order.
     pub fn walk_from(&self, item: &T) -> Walk<'_, T>
         ensures { result ≡ items_from T.cmp self.now.items item.now }
     {
-        match locate(&self.used, item) {
-            Ok((j, at)) => walk_at(&self.used, j, at),
-            Err((j, at)) => walk_at(&self.used, j, at),
+        match locate(self.chunks.as_slice(), item) {
+            Ok((j, at)) => walk_at(self.chunks.as_slice(), j, at),
+            Err((j, at)) => walk_at(self.chunks.as_slice(), j, at),
         }
     }
 
@@ -77,15 +77,15 @@ impl<T: Ord> Large<T> {
     pub fn walk_after<F: Front<T>>(&self, front: &F) -> Walk<'_, T>
         ensures { result ≡ items_after (F.holds front.now) self.now.items }
     {
-        walk_past(&self.used, front)
+        walk_past(self.chunks.as_slice(), front)
     }
 
     /// The item that is equal in order. `None` where none is.
     pub fn find(&self, item: &T) -> Option<&T>
         ensures { option_copied result ≡ find (eq_by_cmp T.cmp item.now) self.now.items }
     {
-        match locate(&self.used, item) {
-            Ok((j, at)) => self.used[j].get(at),
+        match locate(self.chunks.as_slice(), item) {
+            Ok((j, at)) => self.chunks.as_slice()[j].get(at),
             Err(_) => None,
         }
     }
@@ -94,7 +94,7 @@ impl<T: Ord> Large<T> {
     pub fn get(&self, i: usize) -> Option<&T>
         ensures { option_copied result ≡ slice_get self.now.items i }
     {
-        item_at(&self.used, i)
+        item_at(self.chunks.as_slice(), i)
     }
 }
 
@@ -108,11 +108,9 @@ impl<T: Ord + Drop> Large<T> {
         if count > LIMIT {
             return Err(NoMemory);
         }
-        let used = fill(alloc, items)?;
-        let free = Vec::with_capacity(alloc, used.len())?;
+        let chunks = Chunks::of(fill(alloc, items)?);
         Ok(Large {
-            used,
-            free,
+            chunks,
             count,
             alloc,
         })
@@ -127,23 +125,17 @@ impl<T: Ord + Drop> Large<T> {
         ensures room { IfOk result (λ set. more ≤ set.spare) }
         ensures unchanged { OnErr result ((items.new.items ≡ items.old.items) × (vec_capacity items.old ≤ vec_capacity items.new)) }
     {
-        let mut used = Vec::new(alloc);
-        let mut free = Vec::new(alloc);
+        let mut chunks = Chunks::of(Vec::new(alloc));
         let count = items.len();
         if more > LIMIT - count {
             return Err(NoMemory);
         }
         let room = more.checked_add(HALF).ok_or(NoMemory)?;
-        make_room(alloc, &mut used, &mut free, room)?;
-        let chunks = free.len().checked_add(1).ok_or(NoMemory)?;
-        used.reserve(chunks)?;
-        free.reserve(1)?;
-        items.reserve(CHUNK - items.len())?;
-        let all = std::mem::replace(items, Vec::new(alloc));
-        used.push(Chunk::from_vec(all)).unwrap();
+        make_room(alloc, &mut chunks, room)?;
+        chunks.add_free(alloc, 1)?;
+        chunks.begin(items);
         Ok(Large {
-            used,
-            free,
+            chunks,
             count,
             alloc,
         })
@@ -154,12 +146,11 @@ impl<T: Ord + Drop> Large<T> {
         ensures { IfOk result (λ items. items.items ≡ self.items) }
     {
         let Large {
-            used,
+            chunks,
             count,
             alloc,
-            ..
         } = self;
-        flatten(alloc, used, count)
+        flatten(alloc, chunks.into_vec(), count)
     }
 
     /// Adds the item. It answers false where it stood, and hands it back for want of memory.
@@ -171,10 +162,10 @@ impl<T: Ord + Drop> Large<T> {
         ensures succeeds { 1 ≤ self.old.spare → IsOk result }
         ensures room { self.old.spare ≤ self.new.spare + 1 }
     {
-        match locate(&self.used, &item) {
+        match locate(self.chunks.as_slice(), &item) {
             Ok(_) => Ok(false),
             Err(_) if self.count >= LIMIT => Err(item),
-            Err((j, at)) => match put(self.alloc, &mut self.used, &mut self.free, j, at, item) {
+            Err((j, at)) => match put(self.alloc, &mut self.chunks, j, at, item) {
                 Ok(()) => {
                     self.count += 1;
                     Ok(true)
@@ -190,9 +181,9 @@ impl<T: Ord + Drop> Large<T> {
         ensures stood { result ≡ has T.cmp self.old.items item.now }
         ensures room { self.old.spare ≤ self.new.spare }
     {
-        match locate(&self.used, item) {
+        match locate(self.chunks.as_slice(), item) {
             Ok((j, at)) => {
-                take(&mut self.used, &mut self.free, j, at);
+                take(&mut self.chunks, j, at);
                 self.count -= 1;
                 true
             }
@@ -209,7 +200,7 @@ impl<T: Ord + Drop> Large<T> {
         if more > LIMIT - self.count {
             return Err(NoMemory);
         }
-        make_room(self.alloc, &mut self.used, &mut self.free, more)
+        make_room(self.alloc, &mut self.chunks, more)
     }
 }
 

@@ -8,6 +8,7 @@ mod front;
 mod walk;
 // Items in chunks.
 mod chunk;
+mod chunks;
 mod large;
 mod pieces;
 // The set.
