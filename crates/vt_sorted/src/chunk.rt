@@ -91,7 +91,6 @@ impl<T> Chunk<T> {
         self.items.remove(at)
     }
 
-
     /// Takes all items of another chunk to the end, where there is room.
     pub fn join(&mut self, other: &mut Chunk<T>)
         requires { length self.old + length other.old ≤ 64 }

@@ -75,6 +75,19 @@ impl<T> Chunks<T> {
         Ok(())
     }
 
+    /// Makes sure that a chunk is free.
+    pub fn make_free(&mut self, alloc: Global) -> Result<(), NoMemory>
+        ensures items { self.new.items ≡ self.old.items }
+        ensures some { OnOk result (1 ≤ self.new.spare) }
+        ensures grows { self.old.spare ≤ self.new.spare }
+        ensures succeeds { 1 ≤ self.old.spare → IsOk result }
+    {
+        if self.free() == 0 {
+            self.add_free(alloc, 1)?;
+        }
+        Ok(())
+    }
+
     /// Takes the items of a vector to a chunk, the first of all.
     pub fn begin(&mut self, items: &mut Vec<T>)
         requires none { self.old.items ≡ [] }
@@ -107,7 +120,7 @@ impl<T> Chunks<T> {
         ensures items { IsPutBeside self.old.items self.new.items j at item }
         ensures room { self.new.spare + 1 ≡ self.old.spare }
     {
-        let mut upper = self.all.pop().unwrap();
+        let mut upper = self.all.remove(self.used);
         self.all[j].put_and_split(&mut upper, at, item);
         self.all.insert(j + 1, upper).unwrap();
         self.used += 1;

@@ -31,11 +31,13 @@ pub(crate) fn put<T: Drop>(
         chunks.put_in(j, at, item);
         return Ok(());
     }
-    if chunks.free() == 0 && chunks.add_free(alloc, 1).is_err() {
-        return Err(item);
+    match chunks.make_free(alloc) {
+        Ok(()) => {
+            chunks.put_beside(j, at, item);
+            Ok(())
+        }
+        Err(_) => Err(item),
     }
-    chunks.put_beside(j, at, item);
-    Ok(())
 }
 
 // Whether the chunk after k may be joined to it: it is empty, or both are small.
