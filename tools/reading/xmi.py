@@ -11,6 +11,12 @@ class Object:
         self.attributes, self.links = {}, {}
 
 
+def written_value(element, key):
+    """The text of an attribute, which may be an element of its own."""
+    inner = next((child.text for child in element.children if child.name == key), None)
+    return element.get(key) or inner
+
+
 class Model:
     def __init__(self, meta, name):
         self.meta, self.file, self.notes, root = meta, name, Notes(name), read_xml(name)
@@ -70,16 +76,10 @@ class Model:
         """An object's name: its ID, or its attribute `name`, or one of its class and a number."""
         had = self.meta.features_of(made.found)
         ids = [f.ecore_name for f in had.values() if not f.is_reference and f.element.is_true("iD")]
-        for key in [*ids, "name"]:
-            said = made.element.get(key)
-            if (
-                said
-                and key in had
-                and not why_no_name(said, OBJECT_NAME)
-                and said not in self.names
-                and not said.startswith("_")
-            ):
-                made.name = said
+        said = [text for text in (written_value(made.element, key) for key in [*ids, "name"] if key in had) if text]
+        for text in said:
+            if not why_no_name(text, OBJECT_NAME) and text not in self.names and not text.startswith("_"):
+                made.name = text
                 break
         else:
             base = (made.found.name[:1].lower() + made.found.name[1:])[:56].lstrip("_") or "object"
@@ -87,10 +87,9 @@ class Model:
             while f"{base}{number}" in self.names:
                 number += 1
             made.name = f"{base}{number}"
-            if any(made.element.get(key) for key in [*ids, "name"]):
-                said = next(made.element.get(key) for key in [*ids, "name"] if made.element.get(key))
+            if said:
                 self.notes.tell(
-                    made.element, f"the object {said!r} is called {made.name}: that is no object's name, or is taken"
+                    made.element, f"the object {said[0]!r} is called {made.name}: that is no object's name, or is taken"
                 )
         self.names.add(made.name)
 
