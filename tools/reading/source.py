@@ -127,16 +127,20 @@ def distance(a, b, most):
 def nearest(name, names):
     """The name among some that is most like this one, if one is like it."""
     # Of one letter no other is like it, but for its case.
-    best, least = None, (0 if len(name) < 2 else max(1, len(name) // 3)) + 1
-    folded = name.casefold()
+    most = 0 if len(name) < 2 else max(1, len(name) // 3)
+    best, least, folded = None, most + 1, name.casefold()
+    # A name that is like it has one of these parts, since an edit changes two at most. Among many names that is told sooner.
+    count = min(2 * most + 1, len(name))
+    parts = [name[len(name) * i // count : len(name) * (i + 1) // count] for i in range(count)] if count > 2 else [""]
     for other in names:
         if other == name:
             continue
         if other.casefold() == folded:
             return other
-        far = distance(name, other, least - 1)
-        if far < least:
-            best, least = other, far
+        if any(part in other for part in parts):
+            far = distance(name, other, least - 1)
+            if far < least:
+                best, least = other, far
     return best
 
 
