@@ -234,8 +234,16 @@ impl Memory {
         };
         let keys = self.copied_keys()?;
         let larger = Memory::with_places(self.alloc, keys, room, room.max(1))?;
-        let Memory { slab, .. } = mem::replace(self, larger);
-        self.fill(slab);
+        let Memory {
+            slab,
+            whole,
+            indexes,
+            alloc: _,
+        } = larger;
+        let rows = mem::replace(&mut self.slab, slab);
+        self.whole = whole;
+        self.indexes = indexes;
+        self.fill(rows);
         Ok(())
     }
 

@@ -26,7 +26,7 @@ invariant_of-self c =
     let absent : has_row (rows_of v.slab) c.args.row ≡ false = subst P (sym c.self.view_is) c.requires.absent in
     let number : c.number_of-number.result ≡ number_of c.args.row = c.number_of-number.ensures ∙ ap number_of c.as_slice.ensures in
     let chains : c.push.new.self.chains ≡ with_key v.whole.chains (number_of c.args.row) k = c.push.ensures.chains ∙ ap (λ n. with_key v.whole.chains n k) number in
-    let same : c.index.result.now ≡ c.args.row = Some-injective c.index.result.now c.args.row (sym c.index.ensures.index_gives ∙ e.updates.changed) in
+    let same : c.index.result.now ≡ c.args.row = Some-injective c.index.result.now c.args.row (sym c.index.ensures ∙ e.updates.changed) in
     let indexes : c.put_all.new.indexes.items ≡ map (with_entry k c.args.row) v.indexes.items = c.put_all.ensures ∙ ap (λ r. map (with_entry k r) v.indexes.items) same in
     subst (IsSound c.insert_reserved-key.new.self c.push.new.self) (sym indexes)
     (IsSound-with v.slab c.insert_reserved-key.new.self v.whole c.push.new.self v.indexes.items k c.args.row c.self.invariant absent e.capacity e.was_vacant e.updates chains c.push.ensures.reach)

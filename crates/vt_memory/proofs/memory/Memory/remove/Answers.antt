@@ -72,7 +72,8 @@ returns-in-None-clause-rows g c =
     let row = c.args.row.now in
     let none : key_among v.slab row (chain_at v.whole.chains (number_of row)) ≡ None = sym c.key_of.ensures ∙ c.in-None.is in
     let absent : has_row (rows_of v.slab) row ≡ false = sym (has-by_key v.slab v.whole row c.self.invariant.by_row) ∙ ap is_some none in
-    sym (absent_stays (rows_of v.slab) row (Ascends-rows_of v.slab) absent) ∙ ap (λ (seen : Keyed). without_item tuple_cmp seen.rows row) c.self.view_is
+    let P : Keyed → Type 0 = λ seen. seen.rows ≡ without_item tuple_cmp seen.rows row in
+    subst P c.self.view_is (sym (absent_stays (rows_of v.slab) row (Ascends-rows_of v.slab) absent))
 
 pub returns-in-None-clause-stood : goal.returns-in-None-clause-stood
 returns-in-None-clause-stood g c =
