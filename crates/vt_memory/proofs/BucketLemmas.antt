@@ -72,6 +72,7 @@ module _ (slab : Slab (List Value)) (cs : List ℕ) (vs : List Value) where
       later : (has_row (fitting slab cs vs ks) q ≡ true → (j : ℕ) × (0 < times j ks) × (get slab j ≡ Some q) × (has_values cs vs q ≡ true))
           → has_row (fitting slab cs vs ks) q ≡ true → (j : ℕ) × (0 < times j (k ∷ ks)) × (get slab j ≡ Some q) × (has_values cs vs q ≡ true)
       later on f = let at = on f in (at.0, omega (arith, times-tail at.0 k ks, at.1), at.2, at.3)
+
       of : (has_row (fitting slab cs vs ks) q ≡ true → (j : ℕ) × (0 < times j ks) × (get slab j ≡ Some q) × (has_values cs vs q ≡ true))
           → (o : Option (List Value)) → if_fits cs vs (get slab k) ≡ o → has_row (and_row o (fitting slab cs vs ks)) q ≡ true → (j : ℕ) × (0 < times j (k ∷ ks)) × (get slab j ≡ Some q) × (has_values cs vs q ≡ true)
       of on None e f = later on f
@@ -118,6 +119,7 @@ module _ (slab : Slab (List Value)) (cs : List ℕ) (vs : List Value) where
                 absurd (omega (arith, at.1, ap (λ j. times j ks) same, once k, times-same k ks))
             | false ↦ λ _. refl
           ] refl
+
       of : IsDistinct (eq_by_cmp tuple_cmp) (fitting slab cs vs ks) → (o : Option (List Value)) → if_fits cs vs (get slab k) ≡ o → IsDistinct (eq_by_cmp tuple_cmp) (and_row o (fitting slab cs vs ks))
       of rest None e = rest
       of rest (Some q) e = IsDistinct-cons (eq_by_cmp tuple_cmp) q (fitting slab cs vs ks) (none_equal q (fitting slab cs vs ks) (absent q (fits_is (get slab k) q e).0)) rest
@@ -175,6 +177,7 @@ module _ (slab : Slab (List Value)) (index : Index) (vs : List Value) (alone : I
             | true ↦ (a.0, all-filter q ys a.1)
             | false ↦ all-filter q ys a.1
           ]
+
       distinct-filter : (xs : List (List Value)) → IsDistinct (eq_by_cmp tuple_cmp) xs → IsDistinct (eq_by_cmp tuple_cmp) (filter p xs)
       distinct-filter [] d = d
       distinct-filter (x ∷ xs) d =
@@ -191,8 +194,7 @@ found_stands p [] q e = absurd (cc)
 found_stands p (row ∷ rows) q e =
     elim (p row) as (λ b. p row ≡ b → cond b (Some row) (find p rows) ≡ Some q → (has_row (row ∷ rows) q ≡ true) × (p q ≡ true)) [
       | true ↦ λ passes f.
-          let same : row ≡ q = cc in
-          (
+          let same : row ≡ q = cc in (
             ap (λ b. b || has_row rows q) (ap (λ r. eq_by_cmp tuple_cmp q r) same ∙ itself q),
             ap p (sym same) ∙ passes,
           )

@@ -68,14 +68,14 @@ few_keys zero [] below once = omega arith
 few_keys zero (k ∷ ks) below once = absurd (omega (arith, below k (omega (arith, times-same k ks))))
 few_keys (suc n) ks below once =
     let rest : length (without n ks) ≤ n = few_keys n (without n ks)
-        (λ k some.
-        let stood : 0 < times k ks = omega (arith, times-without-le n k ks) in
-        let bound : k < suc n = below k stood in
-        elim (cases_eq k n) [
-          | inl e ↦ absurd (omega (arith, times-without_same n ks, ap (λ m. times m (without n ks)) e))
-          | inr d ↦ omega (arith, d)
-        ])
-        (λ k. omega (arith, times-without-le n k ks, once k)) in
+    (λ k some.
+    let stood : 0 < times k ks = omega (arith, times-without-le n k ks) in
+    let bound : k < suc n = below k stood in
+    elim (cases_eq k n) [
+      | inl e ↦ absurd (omega (arith, times-without_same n ks, ap (λ m. times m (without n ks)) e))
+      | inr d ↦ omega (arith, d)
+    ])
+    (λ k. omega (arith, times-without-le n k ks, once k)) in
     omega (arith, length-without n ks, once n)
 
 -- ---- IsPath
@@ -160,8 +160,7 @@ path_step next at after p inside read = from (length next) refl p inside read
         let cons : chain (suc m) next at ≡ at ∷ chain m next (get_or next at 0) = rw test refl in
         let whole : IsPath next at (at ∷ chain m next (get_or next at 0)) = subst (IsPath next at) cons q in
         let rest : chain (length next) next (get_or next at 0) ≡ chain m next (get_or next at 0) =
-            chain_is (length next) next (get_or next at 0) (chain m next (get_or next at 0)) whole.2 (omega (arith, chain_short m next (get_or next at 0))) in
-        (
+        chain_is (length next) next (get_or next at 0) (chain m next (get_or next at 0)) whole.2 (omega (arith, chain_short m next (get_or next at 0))) in (
           cons ∙ ap (λ zs. at ∷ zs) (sym rest ∙ ap (chain (length next) next) read),
           subst (λ i. IsPath next i (chain (length next) next i)) read (subst (IsPath next (get_or next at 0)) (sym rest) whole.2),
         )
@@ -230,18 +229,17 @@ path-taken next back at j (i ∷ is) k p b once d some =
             p.0,
             omega (arith, length-set next j (get_or next k 0), p.1),
             subst (λ m. IsPath (set next j (get_or next k 0)) m is) (sym (get_or-set_same next j (get_or next k 0) 0 p.1))
-            (path-set_other next (get_or next k 0) is j (get_or next k 0) (subst (λ m. IsPath next (get_or next m 0) is) (sym e) p.2.2) (omega (arith, times-tail j i is))),
+                (path-set_other next (get_or next k 0) is j (get_or next k 0) (subst (λ m. IsPath next (get_or next m 0) is) (sym e) p.2.2) (omega (arith, times-tail j i is))),
           ))
       | inr f ↦
           let stands : 0 < times k (i ∷ is) = omega (arith, times-other k j (i ∷ is) d) in
           let once' : (m : ℕ) → times m (i ∷ is) ≤ 1 = λ m. omega (arith, once m, times-tail m j (i ∷ is)) in
           let within : 0 < times (get_or back k 0) (i ∷ is) = back_within back i is k b.1 f stands in
-          let apart : j ≢ get_or back k 0 = λ e. omega (arith, ap (λ m. times m (i ∷ is)) e) in
-          (
+          let apart : j ≢ get_or back k 0 = λ e. omega (arith, ap (λ m. times m (i ∷ is)) e) in (
             p.0,
             omega (arith, length-set next (get_or back k 0) (get_or next k 0), p.1),
             subst (λ m. IsPath (set next (get_or back k 0) (get_or next k 0)) m (without k (i ∷ is))) (sym (get_or-set_other next (get_or back k 0) j (get_or next k 0) 0 apart))
-            (path-taken next back (get_or next j 0) i is k p.2 b.1 once' f stands),
+                (path-taken next back (get_or next j 0) i is k p.2 b.1 once' f stands),
           )
     ])
 
@@ -260,8 +258,7 @@ backed-taken next back at j (i ∷ is) k s p b once d some =
       | inr f ↦
           let stands : 0 < times k (i ∷ is) = omega (arith, times-other k j (i ∷ is) d) in
           let once' : (m : ℕ) → times m (i ∷ is) ≤ 1 = λ m. omega (arith, once m, times-tail m j (i ∷ is)) in
-          let first : i ≢ get_or next k 0 = λ e. next_not_first next (get_or next j 0) i is k p.2 (omega (arith, once' i, times-same i is)) stands (sym e) in
-          (
+          let first : i ≢ get_or next k 0 = λ e. next_not_first next (get_or next j 0) i is k p.2 (omega (arith, once' i, times-same i is)) stands (sym e) in (
             subst (λ zs. IsAfter (set back (get_or next k 0) (get_or back k 0)) j zs) (sym (without-other k i is f)) (get_or-set_other back (get_or next k 0) i (get_or back k 0) 0 first ∙ b.0),
             backed-taken next back (get_or next j 0) i is k s p.2 b.1 once' f stands,
           )

@@ -99,10 +99,13 @@ module _ (number : List Value → ℕ) where
         where
           p : ℕ
           p = number row % length chained.chains
+
           here : get_or (with_key chained.chains (number row) k) (number row % length chained.chains) [] ≡ k ∷ chain_at chained.chains (number row)
           here = get_or-set_same chained.chains (number row % length chained.chains) (k ∷ chain_at chained.chains (number row)) [] (below row)
+
           other : (place : ℕ) → place ≢ number row % length chained.chains → get_or (with_key chained.chains (number row) k) place [] ≡ get_or chained.chains place []
           other place d = get_or-set_other chained.chains (number row % length chained.chains) place (k ∷ chain_at chained.chains (number row)) [] d
+
           at_k : (place : ℕ) → place < length chained.chains → times k (get_or (with_key chained.chains (number row) k) place []) ≡ stands_at number (length chained.chains) place (Some row)
           at_k place l =
               elim (cases_eq place (number row % length chained.chains)) [
@@ -110,6 +113,7 @@ module _ (number : List Value → ℕ) where
                     (ap (times k) here ∙ times-same k (chain_at chained.chains (number row)) ∙ ap (λ t. 1 + t) (free_key k none (number row % length chained.chains)) ∙ sym (stands-here number (length chained.chains) row))
                 | inr d ↦ ap (times k) (other place d) ∙ free_key k none place ∙ sym (stands-there number (length chained.chains) place row d)
               ]
+
           at : (place key : ℕ) → place < length chained.chains → times key (get_or (with_key chained.chains (number row) k) place []) ≡ stands_at number (length chained.chains) place (get new key)
           at place key l =
               elim (cases_eq key k) [
@@ -117,11 +121,11 @@ module _ (number : List Value → ℕ) where
                     (at_k place l ∙ sym (ap (stands_at number (length chained.chains) place) updates.changed))
                 | inr d ↦
                     let kept : times key (get_or (with_key chained.chains (number row) k) place []) ≡ times key (get_or chained.chains place []) =
-                        elim (cases_eq place (number row % length chained.chains)) [
-                          | inl e ↦ subst (λ q. times key (get_or (with_key chained.chains (number row) k) q []) ≡ times key (get_or chained.chains q [])) (sym e)
-                              (ap (times key) here ∙ times-other key k (chain_at chained.chains (number row)) d)
-                          | inr f ↦ ap (times key) (other place f)
-                        ] in
+                    elim (cases_eq place (number row % length chained.chains)) [
+                      | inl e ↦ subst (λ q. times key (get_or (with_key chained.chains (number row) k) q []) ≡ times key (get_or chained.chains q [])) (sym e)
+                          (ap (times key) here ∙ times-other key k (chain_at chained.chains (number row)) d)
+                      | inr f ↦ ap (times key) (other place f)
+                    ] in
                     kept ∙ is.keys place key l ∙ sym (ap (stands_at number (length chained.chains) place) (updates.others key d))
               ]
 
@@ -138,8 +142,10 @@ module _ (number : List Value → ℕ) where
         where
           here : get_or (without_key chained.chains (number row) k) (number row % length chained.chains) [] ≡ without k (chain_at chained.chains (number row))
           here = get_or-set_same chained.chains (number row % length chained.chains) (without k (chain_at chained.chains (number row))) [] (below row)
+
           other : (place : ℕ) → place ≢ number row % length chained.chains → get_or (without_key chained.chains (number row) k) place [] ≡ get_or chained.chains place []
           other place d = get_or-set_other chained.chains (number row % length chained.chains) place (without k (chain_at chained.chains (number row))) [] d
+
           at_k : (place : ℕ) → place < length chained.chains → times k (get_or (without_key chained.chains (number row) k) place []) ≡ 0
           at_k place l =
               elim (cases_eq place (number row % length chained.chains)) [
@@ -147,6 +153,7 @@ module _ (number : List Value → ℕ) where
                     (ap (times k) here ∙ times-without_same k (chain_at chained.chains (number row)))
                 | inr d ↦ ap (times k) (other place d) ∙ is.keys place k l ∙ ap (stands_at number (length chained.chains) place) found ∙ stands-there number (length chained.chains) place row d
               ]
+
           at : (place key : ℕ) → place < length chained.chains → times key (get_or (without_key chained.chains (number row) k) place []) ≡ stands_at number (length chained.chains) place (get new key)
           at place key l =
               elim (cases_eq key k) [
@@ -154,11 +161,11 @@ module _ (number : List Value → ℕ) where
                     (at_k place l ∙ sym (ap (stands_at number (length chained.chains) place) updates.changed))
                 | inr d ↦
                     let kept : times key (get_or (without_key chained.chains (number row) k) place []) ≡ times key (get_or chained.chains place []) =
-                        elim (cases_eq place (number row % length chained.chains)) [
-                          | inl e ↦ subst (λ q. times key (get_or (without_key chained.chains (number row) k) q []) ≡ times key (get_or chained.chains q [])) (sym e)
-                              (ap (times key) here ∙ times-without_other k key (chain_at chained.chains (number row)) d)
-                          | inr f ↦ ap (times key) (other place f)
-                        ] in
+                    elim (cases_eq place (number row % length chained.chains)) [
+                      | inl e ↦ subst (λ q. times key (get_or (without_key chained.chains (number row) k) q []) ≡ times key (get_or chained.chains q [])) (sym e)
+                          (ap (times key) here ∙ times-without_other k key (chain_at chained.chains (number row)) d)
+                      | inr f ↦ ap (times key) (other place f)
+                    ] in
                     kept ∙ is.keys place key l ∙ sym (ap (stands_at number (length chained.chains) place) (updates.others key d))
               ]
 
@@ -315,8 +322,7 @@ changed_one f old xs i v d l long done rest is =
     let a : drop i xs ≡ get_or xs i d ∷ drop (i + 1) xs = drop_more xs i d (omega arith) in
     let b : drop i old ≡ get_or old i d ∷ drop (i + 1) old = drop_more old i d l in
     let both : (get_or xs i d ∷ drop (i + 1) xs) ≡ (get_or old i d ∷ drop (i + 1) old) = sym a ∙ rest ∙ b in
-    let tails : drop (i + 1) xs ≡ drop (i + 1) old = cc in
-    (
+    let tails : drop (i + 1) xs ≡ drop (i + 1) old = cc in (
       take_more_set xs i v (omega arith) ∙ ap (λ zs. zs ++ v ∷ []) done ∙ ap (λ z. map f (take i old) ++ z ∷ []) (is ∙ ap f same) ∙ sym (map_more f old i d l),
       drop-set-lt (i + 1) xs i v (omega arith) ∙ tails,
     )

@@ -4,3 +4,4 @@ pub mod SetLemmas
 pub mod IndexLemmas
 pub mod BucketLemmas
 pub mod SeenLemmas
+pub mod SideLemmas

@@ -178,8 +178,7 @@ module _ (heads next back : List ℕ) (chains : List (List ℕ)) (is : IsLinking
         rest [] path backed once s = absurd (omega arith)
         rest (j ∷ js) path backed once s =
             let e : k ≡ j = sym first ∙ path.0 in
-            let gone : without k (j ∷ js) ≡ js = subst (λ m. without k (m ∷ js) ≡ js) e (without-same k js ∙ without-none k js (subst (λ m. times m js ≡ 0) (sym e) (omega (arith, once j, times-same j js)))) in
-            (
+            let gone : without k (j ∷ js) ≡ js = subst (λ m. without k (m ∷ js) ≡ js) e (without-same k js ∙ without-none k js (subst (λ m. times m js ≡ 0) (sym e) (omega (arith, once j, times-same j js)))) in (
               subst (IsPath next (get_or next k 0)) (sym gone) (subst (λ m. IsPath next (get_or next m 0) js) (sym e) path.2),
               subst (IsBacked back) (sym gone) backed.1,
             )
@@ -232,9 +231,8 @@ module _ (heads next back : List ℕ) (s : AreLinked heads next back) (number p 
       → AreLinked (set heads p k) (set next k head) (set back head k) × (chains_from (set next k head) (set heads p k) ≡ with_key (chains_from next heads) number k)
   pushed k head e reach free =
       let links : IsLinking (set heads p k) (set next k head) (set back head k) (set (chains_from next heads) p (k ∷ get_or (chains_from next heads) p [])) =
-          subst (λ m. IsLinking (set heads p k) (set next k m) (set back m k) (set (chains_from next heads) p (k ∷ get_or (chains_from next heads) p []))) (sym e)
-          (linking-pushed heads next back (chains_from next heads) s.linking s.paired p inside k reach free) in
-      (
+      subst (λ m. IsLinking (set heads p k) (set next k m) (set back m k) (set (chains_from next heads) p (k ∷ get_or (chains_from next heads) p []))) (sym e)
+      (linking-pushed heads next back (chains_from next heads) s.linking s.paired p inside k reach free) in (
         AreLinked-linking (set heads p k) (set next k head) (set back head k) _ (omega (arith, s.some, length-set heads p k)) (rw length-set s.small) (length-set back head k ∙ s.paired ∙ sym (length-set next k head)) links,
         chains_from-is (set heads p k) (set next k head) (set back head k) _ links ∙ sym (with_key-place k),
       )
@@ -251,9 +249,8 @@ module _ (heads next back : List ℕ) (s : AreLinked heads next back) (number p 
       pub first_taken : get_or heads p 0 ≡ k → AreLinked (set heads p after) next back × (chains_from next (set heads p after) ≡ without_key (chains_from next heads) number k)
       first_taken first =
           let links : IsLinking (set heads p after) next back (set (chains_from next heads) p (without k (get_or (chains_from next heads) p []))) =
-              subst (λ m. IsLinking (set heads p m) next back (set (chains_from next heads) p (without k (get_or (chains_from next heads) p [])))) (sym after_is)
-              (linking-first_taken heads next back (chains_from next heads) s.linking s.paired p inside k stands first) in
-          (
+          subst (λ m. IsLinking (set heads p m) next back (set (chains_from next heads) p (without k (get_or (chains_from next heads) p [])))) (sym after_is)
+          (linking-first_taken heads next back (chains_from next heads) s.linking s.paired p inside k stands first) in (
             AreLinked-linking (set heads p after) next back _ (omega (arith, s.some, length-set heads p after)) s.small s.paired links,
             chains_from-is (set heads p after) next back _ links ∙ sym (without_key-place k),
           )
@@ -267,10 +264,9 @@ module _ (heads next back : List ℕ) (s : AreLinked heads next back) (number p 
         pub later_taken : AreLinked heads (set next before after) (set back after before) × (chains_from (set next before after) heads ≡ without_key (chains_from next heads) number k)
         later_taken =
             let links : IsLinking heads (set next before after) (set back after before) (set (chains_from next heads) p (without k (get_or (chains_from next heads) p []))) =
-                subst (λ m. IsLinking heads (set next before m) (set back m before) (set (chains_from next heads) p (without k (get_or (chains_from next heads) p [])))) (sym after_is)
-                (subst (λ m. IsLinking heads (set next m (get_or next k 0)) (set back (get_or next k 0) m) (set (chains_from next heads) p (without k (get_or (chains_from next heads) p [])))) (sym before_is)
-                (linking-later_taken heads next back (chains_from next heads) s.linking s.paired p inside k stands later)) in
-            (
+            subst (λ m. IsLinking heads (set next before m) (set back m before) (set (chains_from next heads) p (without k (get_or (chains_from next heads) p [])))) (sym after_is)
+            (subst (λ m. IsLinking heads (set next m (get_or next k 0)) (set back (get_or next k 0) m) (set (chains_from next heads) p (without k (get_or (chains_from next heads) p [])))) (sym before_is)
+            (linking-later_taken heads next back (chains_from next heads) s.linking s.paired p inside k stands later)) in (
               AreLinked-linking heads (set next before after) (set back after before) _ s.some (rw length-set s.small) (length-set back after before ∙ s.paired ∙ sym (length-set next before after)) links,
               chains_from-is heads (set next before after) (set back after before) _ links ∙ sym (without_key-place k),
             )

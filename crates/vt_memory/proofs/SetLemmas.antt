@@ -118,6 +118,7 @@ rows_of-added old new k r none updates =
   where
     stands_none : (q : List Value) → Some q ≡ None → ⊥
     stands_none q e = cc
+
     to : (q : List Value) → ((i : ℕ) × (get new i ≡ Some q)) → (eq_by_cmp tuple_cmp q r || has_row (rows_of old) q) ≡ true
     to q at =
         elim (cases_eq at.0 k) [
@@ -126,6 +127,7 @@ rows_of-added old new k r none updates =
               or_left (eq_by_cmp tuple_cmp q r) (has_row (rows_of old) q) (ap (eq_by_cmp tuple_cmp q) same ∙ itself q)
           | inr d ↦ or_right_true (eq_by_cmp tuple_cmp q r) (has_row (rows_of old) q) (stands_from old at.0 q (sym (updates.others at.0 d) ∙ at.1))
         ]
+
     from : (q : List Value) → (eq_by_cmp tuple_cmp q r || has_row (rows_of old) q) ≡ true → has_row (rows_of new) q ≡ true
     from q h =
         elim (eq_by_cmp tuple_cmp q r) as (λ b. eq_by_cmp tuple_cmp q r ≡ b → (b || has_row (rows_of old) q) ≡ true → has_row (rows_of new) q ≡ true) [
@@ -146,29 +148,33 @@ rows_of-removed old new k r alone found updates =
   where
     stands_none : (q : List Value) → Some q ≡ None → ⊥
     stands_none q e = cc
+
     and_both : (a b : Bool) → a ≡ true → b ≡ false → (a && not b) ≡ true
     and_both true false e f = refl
     and_both true true e f = absurd (true≢false f)
     and_both false b e f = absurd (true≢false (sym e))
+
     apart : (q : List Value) → ((r ≡ q) → ⊥) → eq_by_cmp tuple_cmp q r ≡ false
     apart q d =
         elim (eq_by_cmp tuple_cmp q r) as (λ b. eq_by_cmp tuple_cmp q r ≡ b → b ≡ false) [
           | true ↦ λ same. absurd (d (sym (same_row q r same)))
           | false ↦ λ _. refl
         ] refl
+
     to : (q : List Value) → ((i : ℕ) × (get new i ≡ Some q)) → (has_row (rows_of old) q && not (eq_by_cmp tuple_cmp q r)) ≡ true
     to q at =
         let differs : at.0 ≢ k = λ e. stands_none q (sym at.1 ∙ ap (get new) e ∙ updates.changed) in
         let stood : get old at.0 ≡ Some q = sym (updates.others at.0 differs) ∙ at.1 in
         and_both (has_row (rows_of old) q) (eq_by_cmp tuple_cmp q r) (stands_from old at.0 q stood) (apart q (λ same. differs (alone at.0 k q stood (found ∙ ap Some same))))
+
     from : (q : List Value) → (has_row (rows_of old) q && not (eq_by_cmp tuple_cmp q r)) ≡ true → has_row (rows_of new) q ≡ true
     from q h =
         elim (has_row (rows_of old) q) as (λ b. has_row (rows_of old) q ≡ b → (b && not (eq_by_cmp tuple_cmp q r)) ≡ true → has_row (rows_of new) q ≡ true) [
           | true ↦ λ there f.
               let at = stands_to old q there in
               let differs : at.0 ≢ k = λ e.
-                  let same : q ≡ r = Some-injective q r (sym at.1 ∙ ap (get old) e ∙ found) in
-                  true≢false (sym f ∙ ap not (ap (λ x. eq_by_cmp tuple_cmp q x) (sym same) ∙ itself q)) in
+              let same : q ≡ r = Some-injective q r (sym at.1 ∙ ap (get old) e ∙ found) in
+              true≢false (sym f ∙ ap not (ap (λ x. eq_by_cmp tuple_cmp q x) (sym same) ∙ itself q)) in
               stands_from new at.0 q (updates.others at.0 differs ∙ at.1)
           | false ↦ λ _ f. absurd (true≢false (sym f))
         ] refl h
@@ -197,6 +203,7 @@ are_new_from rows first (Some r ∷ slots) new alone = (
     neither : (a b : Bool) → a ≡ false → b ≡ false → (a || b) ≡ false
     neither true b e f = absurd (true≢false e)
     neither false b e f = f
+
     apart : (i : ℕ) (q : List Value) → get_or slots i None ≡ Some q → eq_by_cmp tuple_cmp q r ≡ false
     apart i q f =
         elim (eq_by_cmp tuple_cmp q r) as (λ b. eq_by_cmp tuple_cmp q r ≡ b → b ≡ false) [
@@ -216,6 +223,7 @@ absent_stays rows q s absent =
     and_true : (a : Bool) → (a && true) ≡ a
     and_true true = refl
     and_true false = refl
+
     kept : (r : List Value) → (has_row rows r && not (eq_by_cmp tuple_cmp r q)) ≡ has_row rows r
     kept r =
         elim (eq_by_cmp tuple_cmp r q) as (λ b. eq_by_cmp tuple_cmp r q ≡ b → (has_row rows r && not b) ≡ has_row rows r) [

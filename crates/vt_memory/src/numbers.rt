@@ -6,7 +6,9 @@ ghost use Rattle.vt_memory.specs.Inside.Numbers.{mix, with_value, with_cell, num
 use vt_base::{Tuple, Value};
 
 const START: u64 = 11400714819323198485;
+
 const FACTOR: u128 = 11400714819323198485;
+
 const HALF: u128 = 18446744073709551616;
 
 /// The number of some values: each bit of each of them matters.

@@ -13,7 +13,7 @@ invariant_of-result c =
     let after : length next ≡ c.args.reach = ap length (c.in_ok-next.ensures.items_if_clones_equal (λ y h. h)) ∙ length-replicate {A = ℕ} c.args.reach 4294967295 in
     let before : length back ≡ c.args.reach = ap length (c.in_ok-back.ensures.items_if_clones_equal (λ y h. h)) ∙ length-replicate {A = ℕ} c.args.reach 4294967295 in
     let links : IsLinking heads next back (replicate c.args.places []) =
-        subst (λ hs. IsLinking hs next back (replicate c.args.places [])) (sym ends) (linking-none c.args.places c.args.reach 4294967295 next back (omega (arith, c.requires.small, after))) in
+    subst (λ hs. IsLinking hs next back (replicate c.args.places [])) (sym ends) (linking-none c.args.places c.args.reach 4294967295 next back (omega (arith, c.requires.small, after))) in
     AreLinked-linking heads next back (replicate c.args.places []) (omega (arith, c.requires.some, ap length ends, length-replicate {A = ℕ} c.args.places 4294967295)) (omega (arith, c.requires.small, after)) (before ∙ sym after) links
 
 pub returns-clause-chains : goal.returns-clause-chains
@@ -24,5 +24,5 @@ returns-clause-chains c =
     let ends : heads ≡ replicate c.args.places 4294967295 = c.in_ok-heads.ensures.items_if_clones_equal (λ y h. h) in
     let after : length next ≡ c.args.reach = ap length (c.in_ok-next.ensures.items_if_clones_equal (λ y h. h)) ∙ length-replicate {A = ℕ} c.args.reach 4294967295 in
     let links : IsLinking heads next back (replicate c.args.places []) =
-        subst (λ hs. IsLinking hs next back (replicate c.args.places [])) (sym ends) (linking-none c.args.places c.args.reach 4294967295 next back (omega (arith, c.requires.small, after))) in
+    subst (λ hs. IsLinking hs next back (replicate c.args.places [])) (sym ends) (linking-none c.args.places c.args.reach 4294967295 next back (omega (arith, c.requires.small, after))) in
     chains_from-is heads next back (replicate c.args.places []) links

@@ -28,13 +28,19 @@ returns-clause-none g c =
 pub returns-clause-few : goal.returns-clause-few
 returns-clause-few g c =
     let v = c.self.inside in
-    omega (arith, c.first_beyond.ensures.few,
-    length-bucket_of v.slab v.whole v.indexes.items c.args.self.now c.args.key c.index.result.now c.args.values.now c.self.invariant
-    (ap (λ (seen : Keyed). seen.rows) c.self.view_is) (ap (λ (seen : Keyed). seen.keys) c.self.view_is) c.index.ensures c.requires.key c.requires.values)
+    omega (
+      arith,
+      c.first_beyond.ensures.few,
+      length-bucket_of v.slab v.whole v.indexes.items c.args.self.now c.args.key c.index.result.now c.args.values.now c.self.invariant
+          (ap (λ (seen : Keyed). seen.rows) c.self.view_is) (ap (λ (seen : Keyed). seen.keys) c.self.view_is) c.index.ensures c.requires.key c.requires.values,
+    )
 
 pub returns-clause-ticks : goal.returns-clause-ticks
 returns-clause-ticks g c =
     let v = c.self.inside in
-    omega (arith, c.first_beyond.ensures.ticks,
-    length-bucket_of_kept v.slab v.whole v.indexes.items c.args.self.now c.args.key c.index.result.now c.args.values.now c.self.invariant
-    (ap (λ (seen : Keyed). seen.rows) c.self.view_is) (ap (λ (seen : Keyed). seen.keys) c.self.view_is) c.index.ensures c.requires.key c.requires.values (λ row. has_row c.args.given.now.items row))
+    omega (
+      arith,
+      c.first_beyond.ensures.ticks,
+      length-bucket_of_kept v.slab v.whole v.indexes.items c.args.self.now c.args.key c.index.result.now c.args.values.now c.self.invariant
+          (ap (λ (seen : Keyed). seen.rows) c.self.view_is) (ap (λ (seen : Keyed). seen.keys) c.self.view_is) c.index.ensures c.requires.key c.requires.values (λ row. has_row c.args.given.now.items row),
+    )
