@@ -96,6 +96,12 @@ fn call<L: Ledger>(
 }
 
 // Whether a memory answers as a list does, call after call.
+fn agrees(alloc: Global, room: usize, places: usize, calls: u32) -> Result<bool, NoMemory>
+    requires { 0 < places }
+{
+    agree::<Brand>(alloc, Blank::new(1), room, places, calls)
+}
+
 fn agree<L: Ledger>(
     alloc: Global,
     blank: Blank,
@@ -132,14 +138,14 @@ fn agree<L: Ledger>(
 #[test]
 fn a_memory_answers_as_a_list_does(rt: HostRuntime) -> Result<(), Fail> {
     // Grown from nothing; with few places; with room for all.
-    assert!(rt; agree::<Brand>(rt.alloc(), Blank::new(1), 0, 1, 4000)?);
-    assert!(rt; agree::<Brand>(rt.alloc(), Blank::new(1), 40, 7, 1000)?);
-    assert!(rt; agree::<Brand>(rt.alloc(), Blank::new(1), 64, 101, 2000)?);
+    assert!(rt; agrees(rt.alloc(), 0, 1, 4000)?);
+    assert!(rt; agrees(rt.alloc(), 40, 7, 1000)?);
+    assert!(rt; agrees(rt.alloc(), 64, 101, 2000)?);
     Ok(())
 }
 
 #[test]
 fn a_memory_whose_places_are_all_equal_answers_so_too(rt: HostRuntime) -> Result<(), Fail> {
-    assert!(rt; agree::<Brand>(rt.alloc(), Blank::new(1), 64, 1, 3000)?);
+    assert!(rt; agrees(rt.alloc(), 64, 1, 3000)?);
     Ok(())
 }
