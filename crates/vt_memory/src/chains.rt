@@ -87,13 +87,6 @@ impl Chains {
             at: self.heads[place],
         }
     }
-
-    /// The end of the keys that may be in a chain.
-    pub fn reach(&self) -> usize
-        ensures { result ≡ self.now.reach }
-    {
-        self.next.len()
-    }
 }
 
 // Sets the link of a key. That of no key isn't kept.
