@@ -38,6 +38,16 @@ fn memory(alloc: Global, room: usize, places: usize) -> Result<Memory, NoMemory>
     Memory::with_places(alloc, keys, room, places)
 }
 
+fn stood_at(stands: &[bool], n: u32) -> bool {
+    stands.get(n as usize).copied().unwrap_or(false)
+}
+
+fn set(stands: &mut [bool], n: u32, stood: bool) {
+    if let Some(stand) = stands.get_mut(n as usize) {
+        *stand = stood;
+    }
+}
+
 // Whether the buckets of a row's columns are those that the list has.
 fn buckets<L: Ledger>(
     alloc: Global,
@@ -53,18 +63,13 @@ fn buckets<L: Ledger>(
     let mut same = memory.beyond(0, &[number(n)], &by_number, steps).is_none();
     let none = Rows::new(alloc);
     same = same && memory.beyond(0, &[number(n)], &none, steps).is_none() == by_number.is_empty();
-    for (m, stood) in (0..ROWS).zip(stands) {
+    for m in 0..ROWS {
+        let stood = stood_at(stands, m);
         let other = row(alloc, m)?;
-        same = same && by_number.contains(&other) == (*stood && m / 8 == n / 8);
-        same = same && by_name.contains(&other) == (*stood && m % 8 == n % 8);
+        same = same && by_number.contains(&other) == (stood && m / 8 == n / 8);
+        same = same && by_name.contains(&other) == (stood && m % 8 == n % 8);
     }
     Ok(same)
-}
-
-fn set(stands: &mut [bool], at: usize, stood: bool) {
-    if let Some(stand) = stands.get_mut(at) {
-        *stand = stood;
-    }
 }
 
 // Makes one call, and says whether the memory answers as the list does.
@@ -80,14 +85,17 @@ fn call<L: Ledger>(
 {
     let n = roll % ROWS;
     let row = row(alloc, n)?;
-    let stood = stands.get(n as usize).copied().unwrap_or(false);
+    let stood = stood_at(stands, n);
     match roll / ROWS % 8 {
         0..=2 => {
-            set(stands, n as usize, true);
-            Ok(memory.insert(row, steps).is_ok_and(|new| new != stood))
+            set(stands, n, true);
+            match memory.insert(row, steps) {
+                Ok(new) => Ok(new != stood),
+                Err(_) => Err(NoMemory),
+            }
         }
         3..=5 => {
-            set(stands, n as usize, false);
+            set(stands, n, false);
             Ok(memory.remove(&row, steps) == stood)
         }
         6 => Ok(memory.contains(&row, steps) == stood),
@@ -116,21 +124,16 @@ fn agree<L: Ledger>(
 {
     let mut steps = Steps::<L>::new(blank);
     let mut memory = memory(alloc, room, places)?;
-    let mut stands = [false; ROWS as usize];
+    let mut stands = vec![in alloc; false; 64]?;
     let mut state = 1u64;
     let mut same = true;
     for _ in 0..calls {
         state = state
             .wrapping_mul(6_364_136_223_846_793_005)
             .wrapping_add(1_442_695_040_888_963_407);
-        same = same
-            && call(
-                alloc,
-                &mut memory,
-                &mut stands,
-                (state >> 33) as u32,
-                &mut steps,
-            )?;
+        let roll = (state >> 33) as u32;
+        let agreed = call(alloc, &mut memory, stands.as_mut_slice(), roll, &mut steps)?;
+        same = same && agreed;
     }
     Ok(same)
 }
