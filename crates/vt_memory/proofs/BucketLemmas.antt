@@ -143,9 +143,6 @@ module _ (slab : Slab (List Value)) (index : Index) (vs : List Value) (alone : I
       both true b e f = f
       both false b e f = absurd (true≢false (sym e))
 
-  bucket : List (List Value)
-  bucket = filter (has_values index.columns vs) (rows_of slab)
-
   pub Ascends-bucket : Ascends (filter (has_values index.columns vs) (rows_of slab))
   Ascends-bucket = IsStrictlySortedBy-filter tuple_cmp (has_values index.columns vs) (rows_of slab) (Ascends-rows_of slab)
 

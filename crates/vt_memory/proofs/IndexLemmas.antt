@@ -97,8 +97,6 @@ module _ (number : List Value → ℕ) where
             subst (λ n. times key (get_or (with_key chained.chains (number row) k) place []) ≡ stands_at number n place (get new key)) (sym size) (at place key (omega (arith, size)));
       }
         where
-          p : ℕ
-          p = number row % length chained.chains
 
           here : get_or (with_key chained.chains (number row) k) (number row % length chained.chains) [] ≡ k ∷ chain_at chained.chains (number row)
           here = get_or-set_same chained.chains (number row % length chained.chains) (k ∷ chain_at chained.chains (number row)) [] (below row)
