@@ -16,11 +16,6 @@ use Rattle.vt_base.proofs.OrderLemmas.{eq_by_cmp-Decides}
 use Rattle.vt_base.proofs.RowsLemmas.{same_list}
 use Rattle.vt_resolve.specs.Inside.InOrder.{in_order}
 
-or_twice : (a b c : Bool) → (a || (b || c)) ≡ (b || (a || c))
-or_twice true true c = refl
-or_twice true false c = refl
-or_twice false b c = refl
-
 -- what stands in a list, told by a test that goes over both parts of it
 in_parts : (a b c : Bool) → ((a && c) || (b || (a && not c))) ≡ (b || a)
 in_parts true true true = refl
