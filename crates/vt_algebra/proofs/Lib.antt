@@ -4,3 +4,4 @@ pub mod KeysLemmas
 pub mod MembersLemmas
 pub mod RowsLemmas
 pub mod PlansLemmas
+pub mod SampleLemmas
