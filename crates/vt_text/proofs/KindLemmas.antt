@@ -1,6 +1,6 @@
 -- The kind of a chain over a list and of what a box holds, and that values have the kind.
 use Rattle.std.proofs.Common.{ℕ, zero, suc, ℤ, pos, negsuc, ◌≡◌, ◌⊎◌, inl, inr, Bool as Flag, true, false, if◌then◌else◌, List, slice_get, Option, Some, None, refl, sym, subst}
-use Rattle.std.specs.Prelude.{option_map, not}
+use Rattle.std.specs.Prelude.{option_map, not, int_div, int_rem, neg_ℤ, ◌+ℤ◌, ◌-ℤ◌, ◌*ℤ◌}
 use Rattle.vt_base.specs.declared.value.Value.{Value}
 use Rattle.vt_base.specs.declared.value.Value.TheVariants as value
 use Rattle.vt_base.specs.declared.value.Kind.{Kind}
@@ -41,13 +41,13 @@ an_int_kind (negsuc n) = if_of_kind _ kind.Int (value.Int (negsuc n)) refl
 
 quotient_kind : (x y : ℤ) → OfKind kind.Int (quotient x y)
 quotient_kind x (pos zero) = tt
-quotient_kind x (pos (suc n)) = an_int_kind _
-quotient_kind x (negsuc n) = an_int_kind _
+quotient_kind x (pos (suc n)) = an_int_kind (int_div x (pos (suc n)))
+quotient_kind x (negsuc n) = an_int_kind (int_div x (negsuc n))
 
 remainder_kind : (x y : ℤ) → OfKind kind.Int (remainder x y)
 remainder_kind x (pos zero) = tt
-remainder_kind x (pos (suc n)) = an_int_kind _
-remainder_kind x (negsuc n) = an_int_kind _
+remainder_kind x (pos (suc n)) = an_int_kind (int_rem x (pos (suc n)))
+remainder_kind x (negsuc n) = an_int_kind (int_rem x (negsuc n))
 
 of_ints_kind : (k : Kind) (make : ℤ → ℤ → Option Value) → ((x y : ℤ) → OfKind k (make x y)) → (x y : Option Value) → OfKind k (of_ints make x y)
 of_ints_kind k make h None y = tt
@@ -93,7 +93,7 @@ either_kind (Some (value.Bool false)) (Some (value.Bool b)) = refl
 negative_kind : (x : Option Value) → OfKind kind.Int (negative x)
 negative_kind None = tt
 negative_kind (Some (value.Bool b)) = tt
-negative_kind (Some (value.Int m)) = an_int_kind _
+negative_kind (Some (value.Int m)) = an_int_kind (neg_ℤ m)
 negative_kind (Some (value.Text t)) = tt
 negative_kind (Some (value.Enum e l)) = tt
 negative_kind (Some (value.Obj o)) = tt
@@ -133,9 +133,9 @@ applied_kind operator.Less x y = of_ints_kind kind.Bool (on_ints operator.Less) 
 applied_kind operator.AtMost x y = of_ints_kind kind.Bool (on_ints operator.AtMost) (λ m n. refl) x y
 applied_kind operator.Greater x y = of_ints_kind kind.Bool (on_ints operator.Greater) (λ m n. refl) x y
 applied_kind operator.AtLeast x y = of_ints_kind kind.Bool (on_ints operator.AtLeast) (λ m n. refl) x y
-applied_kind operator.Plus x y = of_ints_kind kind.Int (on_ints operator.Plus) (λ m n. an_int_kind _) x y
-applied_kind operator.Minus x y = of_ints_kind kind.Int (on_ints operator.Minus) (λ m n. an_int_kind _) x y
-applied_kind operator.Times x y = of_ints_kind kind.Int (on_ints operator.Times) (λ m n. an_int_kind _) x y
+applied_kind operator.Plus x y = of_ints_kind kind.Int (on_ints operator.Plus) (λ m n. an_int_kind (m +ℤ n)) x y
+applied_kind operator.Minus x y = of_ints_kind kind.Int (on_ints operator.Minus) (λ m n. an_int_kind (m -ℤ n)) x y
+applied_kind operator.Times x y = of_ints_kind kind.Int (on_ints operator.Times) (λ m n. an_int_kind (m *ℤ n)) x y
 applied_kind operator.Divided x y = of_ints_kind kind.Int (on_ints operator.Divided) quotient_kind x y
 applied_kind operator.Remainder x y = of_ints_kind kind.Int (on_ints operator.Remainder) remainder_kind x y
 

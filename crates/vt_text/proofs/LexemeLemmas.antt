@@ -1,5 +1,5 @@
 -- Tokens as slices of a text, which begin and end with a byte of ASCII.
-use Rattle.std.proofs.Common.{ℕ, ◌≡◌, ◌+◌, ◌-◌, ◌<◌, ◌≤◌, ◌==◌, nat_eq, Bool, true, List, [], ◌∷◌, ◌++◌, length, get_or, drop, slice_range, Some, is_some, refl, sym, ◌∙◌, subst, arith, codes, nat_lt, length-append, length-take-le, length-drop, IsUtf8, IsAscii, IsCharBoundary}
+use Rattle.std.proofs.Common.{ℕ, ◌≡◌, ◌+◌, ◌-◌, ◌<◌, ◌≤◌, ◌==◌, nat_eq, Bool, true, List, [], ◌∷◌, ◌++◌, length, get_or, drop, slice_range, Some, is_some, refl, sym, ◌∙◌, subst, arith, codes, nat_lt, length-append, length-take-le, length-drop, IsUtf8, IsAscii, IsCharBoundary, append-nil}
 use Rattle.std.specs.List.{AllByRecursion, list_all}
 use Rattle.std.specs.Char.{is_ascii_digit}
 use Rattle.std.specs.Cmp.Lexicographic.{pointwise}
@@ -39,10 +39,14 @@ all_back : {X : Type 0} (P : X → Type 0) (xs ys : List X) → AllByRecursion P
 all_back P [] ys h = h
 all_back P (x ∷ xs) ys h = all_back P xs ys h.1
 
+-- all tokens are neighbours
+pub all_among : (text : List ℕ) (tokens : List Token) → Spells text tokens → AreAmong text tokens
+all_among text tokens s = record { before = []; after = []; spelled = subst (Spells text) (sym (append-nil tokens)) s }
+
 -- so is each of some neighbours
 pub each_among : (text : List ℕ) (tokens : List Token) → AreAmong text tokens → AllByRecursion (IsSlice text 0) tokens
 each_among text tokens s =
-    all_front (IsSlice text 0) tokens s.after (all_back (IsSlice text 0) s.before (tokens ++ s.after) (each_is_slice text (s.before ++ tokens ++ s.after) s.spelled))
+    all_back (IsSlice text 0) s.before tokens (all_front (IsSlice text 0) (s.before ++ tokens) s.after (each_is_slice text (s.before ++ tokens ++ s.after) s.spelled))
 
 -- Bytes of ASCII.
 

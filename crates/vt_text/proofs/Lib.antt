@@ -17,3 +17,4 @@ mod QuotedLemmas
 mod KindLemmas
 mod TreeLemmas
 mod SpelledLemmas
+mod MeantLemmas

@@ -16,7 +16,7 @@ use Rattle.vt_text.specs.declared.tree.ExprTree.TheVariants as tree
 use Rattle.vt_text.specs.Words.{identifier, feature_name, number, string}
 use Rattle.vt_text.specs.ExpressionRules.{truth, literal, slot, leaf as written, chain, pair, further, or_sign, and_sign, comparison_sign, sum_sign, product_sign, product, sum, comparison, conjunction, disjunction, negative, negation, enclosed, operand, expression}
 use Rattle.vt_text.specs.Inside.FactoredLeaf as one
-use Rattle.vt_text.specs.Inside.FactoredLeaf.{leaf}
+use Rattle.vt_text.specs.Inside.FactoredLeaf.{leaf, read_as}
 use Rattle.vt_text.specs.Parsing.{IsNoExpression}
 use Rattle.vt_text.proofs.DepthLemmas.{decided_at}
 
@@ -144,28 +144,29 @@ same_operand l m s (suc n) =
     (same_alt _ _ _ _ (same_negation (operand l n) (operand m n) t)
     (same_enclosed (disjunction (operand l n)) (disjunction (operand m n)) (same_disjunction (operand l n) (operand m n) t))))
 
--- an expression as it is read
-abbrev read_as : Bool → Grammar ExprTree
-read_as attributes = disjunction (operand (leaf attributes) 64)
-
 same_expression : (attributes : Bool) → SameAs (expression attributes) (read_as attributes)
+unfolding expression read_as
 same_expression attributes = same_disjunction (operand (written attributes) 64) (operand (leaf attributes) 64) (same_operand (written attributes) (leaf attributes) (same_leaf attributes) 64)
+
+read_decided : (attributes : Bool) → is_decided (read_as attributes) ≡ true
+unfolding read_as
+read_decided attributes = decided_at attributes 64
 
 -- ---- the whole of the lexemes
 
 module _ (attributes : Bool) where
   -- lexemes spell at most one expression
   pub one_expression : (ls : List Lexeme) (x y : ExprTree) → Spells (expression attributes) ls x → Spells (expression attributes) ls y → x ≡ y
-  one_expression = one_value (expression attributes) (read_as attributes) (decided_at attributes 64) (same_expression attributes)
+  one_expression = one_value (expression attributes) (read_as attributes) (read_decided attributes) (same_expression attributes)
 
   -- nothing is left
   pub all_read : (ls : List Lexeme) (x : ExprTree) (rest : List Lexeme) → read (read_as attributes) ls ≡ Ok (x, rest) → nat_eq (length rest) 0 ≡ true → Spells (expression attributes) ls x
-  all_read = ended_spelled (expression attributes) (read_as attributes) (decided_at attributes 64) (same_expression attributes)
+  all_read = ended_spelled (expression attributes) (read_as attributes) (read_decided attributes) (same_expression attributes)
 
   -- something is left
   pub some_left : (ls : List Lexeme) (x : ExprTree) (rest : List Lexeme) → read (read_as attributes) ls ≡ Ok (x, rest) → nat_eq (length rest) 0 ≡ false → IsNoExpression attributes ls
-  some_left ls x rest e n y h = left_only (expression attributes) (read_as attributes) (decided_at attributes 64) (same_expression attributes) ls x rest y e n h
+  some_left ls x rest e n y h = left_only (expression attributes) (read_as attributes) (read_decided attributes) (same_expression attributes) ls x rest y e n h
 
   -- the reading stops
   pub none_read : (ls : List Lexeme) (n : ℕ) → read (read_as attributes) ls ≡ Err n → IsNoExpression attributes ls
-  none_read ls n e y h = not_ok n (y, []) (sym e ∙ spelled_whole (expression attributes) (read_as attributes) (decided_at attributes 64) (same_expression attributes) ls y h)
+  none_read ls n e y h = not_ok n (y, []) (sym e ∙ spelled_whole (expression attributes) (read_as attributes) (read_decided attributes) (same_expression attributes) ls y h)

@@ -1,5 +1,5 @@
 -- Expressions as they are written, over lists, and what a box holds.
-use Rattle.std.proofs.Common.{ℕ, ◌≡◌, Bool, true, false, not, cond, ◌&&◌, ◌||◌, List, [], ◌∷◌, ◌++◌, filter, Option, Some, None, refl, sym, ◌∙◌, ap, append_assoc, append-nil}
+use Rattle.std.proofs.Common.{ℕ, ◌≡◌, Bool, true, false, not, cond, if◌then◌else◌, ◌&&◌, ◌||◌, List, [], ◌∷◌, ◌++◌, filter, Option, Some, None, refl, sym, ◌∙◌, ap, append_assoc, append-nil}
 use Rattle.std.specs.Prelude.{option_map}
 use Rattle.std.specs.List.{list_any}
 use Rattle.std.proofs.lemmas.List.Folds.{list_any-append}
@@ -13,7 +13,7 @@ use Rattle.vt_text.specs.declared.tree.Slot.{Slot}
 use Rattle.vt_text.specs.declared.tree.ExprTree.{ExprTree, Row_of-OperandTree, end_of-OperandTree, more_of-OperandTree, items-the_row-OperandTree}
 use Rattle.vt_text.specs.declared.tree.ExprTree.TheBlock.{hidden-the_row-ExprTree-0}
 use Rattle.vt_text.specs.Parsing.{is_attr, is_slot, reads, further_reads, boxed_reads, firsts, expr_of, further_exprs, boxed_expr}
-use Rattle.vt_text.specs.Inside.Trees.{operand_reads, operand_exprs, beyond}
+use Rattle.vt_text.specs.Inside.Trees.{operand_reads, operand_exprs, beyond, with_first}
 
 -- ---- rows and boxes
 
@@ -46,7 +46,7 @@ same_slot : (a b : Slot) → is_slot a b ≡ true → a ≡ b
 same_slot a b h =
     let name : a.name ≡ b.name = same_bytes a.name b.name (and_left (is_name a.name b.name) (is_attr a.attr b.attr) h) in
     let attr : a.attr ≡ b.attr = same_attr a.attr b.attr (and_right (is_name a.name b.name) (is_attr a.attr b.attr) h) in
-    cc (name, attr)
+    ap (λ n. record { name = n; attr = a.attr }) name ∙ ap (λ t. record { name = b.name; attr = t }) attr
 
 -- ---- two filters as one
 
@@ -94,6 +94,15 @@ firsts_new out s ss h =
   where
     each : (t : Slot) → not (has (out ++ s ∷ []) t) ≡ (not (is_slot s t) && not (has out t))
     each t = ap not (list_any-append (λ own. is_slot own t) out (s ∷ [])) ∙ both_not (has out t) (is_slot s t)
+
+-- one turn
+pub firsts_goes : (out : List Slot) (s : Slot) (ss : List Slot) → with_first out s ++ beyond (with_first out s) ss ≡ out ++ beyond out (s ∷ ss)
+unfolding with_first
+firsts_goes out s ss = go (has out s) refl
+  where
+    go : (b : Bool) → has out s ≡ b → (if b then out else out ++ s ∷ []) ++ beyond (if b then out else out ++ s ∷ []) ss ≡ out ++ beyond out (s ∷ ss)
+    go true e = ap (λ (l : List Slot). out ++ l) (sym (firsts_known out s ss e))
+    go false e = firsts_new out s ss e
 
 -- at first nothing is there
 pub firsts_all : (ss : List Slot) → [] ++ beyond [] ss ≡ firsts ss

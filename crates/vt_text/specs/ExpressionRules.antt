@@ -138,5 +138,5 @@ operand leaf (suc n) =
     (enclosed (disjunction (operand leaf n))))))
 
 -- expr, in which 64 may
-abbrev pub expression : Bool → Grammar ExprTree
+unfoldable pub expression : Bool → Grammar ExprTree
 expression attributes = disjunction (operand (leaf attributes) 64)

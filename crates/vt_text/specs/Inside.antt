@@ -5,3 +5,4 @@ pub mod Chains
 pub mod FactoredLeaf
 pub mod Levels
 pub mod Trees
+pub mod Digits

@@ -5,7 +5,7 @@ ghost use Rattle.vt_base.specs.declared.value.Value.{Value};
 ghost use Rattle.vt_grammar.specs.Grammar as grammar;
 ghost use Rattle.vt_grammar.specs.declared.lexeme.Lexeme.{Lexeme};
 ghost use Rattle.vt_text.specs.Lexicon.{IsMark};
-ghost use Rattle.vt_text.specs.Spelling.{Spells, IsBadAt};
+ghost use Rattle.vt_text.specs.Spelling.{Spells, IsBadAt, AreAmong};
 ghost use Rattle.vt_text.specs.Spans.{AreSlices};
 ghost use Rattle.vt_text.specs.Lexemes.{marks, named_in};
 ghost use Rattle.vt_text.specs.Quoting.{quoted, IsStringOf};
@@ -50,6 +50,11 @@ pub fn each_mark_has_a_symbol()
 /// What has a text is a string in double quotes that stands for it, and each such string has it.
 pub fn strings_are_quoted()
     ensures { (bytes text : List ℕ) → (quoted bytes ≡ Some text) ↔ IsStringOf bytes text }
+{}
+
+/// All the tokens that a text spells are neighbours among them.
+pub fn all_are_among()
+    ensures { (text : List ℕ) (tokens : List Token) → Spells text tokens → AreAmong text tokens }
 {}
 
 /// Lexemes spell at most one expression.

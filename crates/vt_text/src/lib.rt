@@ -48,8 +48,8 @@ pub use slots::{reads, slots_of};
 pub use kind::KindClash;
 // What holds of every text and every expression.
 pub use laws::{
-    bad_spells_nothing, each_mark_has_a_symbol, one_bad_line, one_expression, one_list,
-    spells_or_is_bad, strings_are_quoted, tokens_are_slices, values_have_the_kind,
+    all_are_among, bad_spells_nothing, each_mark_has_a_symbol, one_bad_line, one_expression,
+    one_list, spells_or_is_bad, strings_are_quoted, tokens_are_slices, values_have_the_kind,
 };
 
 #[cfg(test)]

@@ -11,10 +11,16 @@ use sqlite_items::{Boxed, Items};
 use std::alloc::Global;
 use vt_base::{Names, Text};
 
+fn found(slots: &[Slot], slot: &Slot) -> Option<usize>
+    ensures { result ≡ position (is_slot slot.now) slots.now }
+{
+    slots.iter().position(|own| is_slot(slot, own))
+}
+
 fn place_of(slots: &[Slot], slot: &Slot) -> usize
     ensures { result ≡ place_of slots.now slot.now }
 {
-    slots.iter().position(|own| is_slot(slot, own)).unwrap_or(0)
+    found(slots, slot).unwrap_or(0)
 }
 
 fn literal<N: Names>(names: &N, enum_name: &Text, literal: &Text) -> Result<Expr, ExprFault>
@@ -81,6 +87,7 @@ fn operands<N: Names>(
 }
 
 /// The expression that is meant by one as it is written, with its slots.
+#[tactic(auto, using(crate::proofs::MeantLemmas::meant_of, crate::proofs::MeantLemmas::fault_of))]
 pub fn resolve<N: Names>(alloc: Global, tree: &ExprTree, names: &N) -> Result<Parsed, ExprFault>
     ensures accepted { IfOk result (λ parsed. IsMeantBy (N.enums names.now) tree.now parsed) }
 

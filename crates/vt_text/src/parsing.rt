@@ -68,7 +68,6 @@ impl From<NoMemory> for ExprFault {
 }
 
 /// The expression that lexemes spell, as it is written. `None` where they spell none.
-#[tactic(auto, using(crate::proofs::SpelledLemmas::all_read, crate::proofs::SpelledLemmas::some_left, crate::proofs::SpelledLemmas::none_read))]
 pub fn expr_tree(
     alloc: Global,
     lexemes: &[Lexeme],

@@ -7,7 +7,7 @@ ghost use Rattle.vt_grammar.specs.Reading.{read as reading, first, starts};
 ghost use Rattle.vt_grammar.specs.Gives.{Gives};
 ghost use Rattle.vt_grammar.specs.declared.stop.Stop.TheVariants.{Fault};
 ghost use Rattle.vt_text.specs.ExpressionRules.{chained, paired, further, comparison_sign, sum, comparison, disjunction, negative, negation, enclosed, operand};
-ghost use Rattle.vt_text.specs.Inside.FactoredLeaf.{leaf};
+ghost use Rattle.vt_text.specs.Inside.FactoredLeaf.{leaf, read_as};
 ghost use Rattle.vt_text.specs.Inside.Levels.{sign_at, below, at};
 
 use crate::leaf::{begins_leaf, leaf};
@@ -262,13 +262,14 @@ fn operand(
 }
 
 /// The expression at the front, and the lexemes after it.
+#[tactic(auto, unfolding(crate::specs::Inside::FactoredLeaf::read_as))]
 pub(crate) fn front(
     alloc: Global,
     lexemes: &[Lexeme],
     attributes: bool,
 ) -> Result<(ExprTree, &[Lexeme]), Stop>
     ensures { Gives (λ x. (x.0, x.1.now)) result
-        (reading (disjunction (operand (leaf attributes) 64)) lexemes.now) }
+        (reading (read_as attributes) lexemes.now) }
 {
     chain(alloc, lexemes, attributes, DEEPEST, Level::Or)
 }

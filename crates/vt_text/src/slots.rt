@@ -2,7 +2,7 @@
 ghost use Rattle.std.specs.Prelude.{◌≡◌, ◌++◌, OnOk, IfOk};
 ghost use Rattle.std.specs.List.{list_any};
 ghost use Rattle.vt_text.specs.Parsing.{is_attr, is_slot, reads, firsts, slots_of};
-ghost use Rattle.vt_text.specs.Inside.Trees.{operand_reads};
+ghost use Rattle.vt_text.specs.Inside.Trees.{operand_reads, with_first};
 
 use crate::{ExprTree, OperandTree, Slot};
 use std::alloc::Global;
@@ -76,16 +76,26 @@ fn has(slots: &[Slot], slot: &Slot) -> bool
     slots.iter().any(|own| is_slot(own, slot))
 }
 
+// Adds a slot that isn't there yet.
+#[tactic(auto, unfolding(crate::specs::Inside::Trees::with_first))]
+fn add_first(alloc: Global, slots: &mut List<Slot>, slot: &Slot) -> Result<(), NoMemory>
+    ensures { OnOk result (slots.new ≡ with_first slots.old slot.now) }
+{
+    if has(slots.as_slice(), slot) {
+        return Ok(());
+    }
+    let slot = slot.copy(alloc)?;
+    slots.add(slot)
+}
+
 // Each once, where it first stands.
-#[tactic(auto, using(crate::proofs::TreeLemmas::firsts_known, crate::proofs::TreeLemmas::firsts_new, crate::proofs::TreeLemmas::firsts_all, crate::proofs::TreeLemmas::firsts_done))]
+#[tactic(auto, using(crate::proofs::TreeLemmas::firsts_goes, crate::proofs::TreeLemmas::firsts_all, crate::proofs::TreeLemmas::firsts_done))]
 fn firsts(alloc: Global, reads: &[Slot]) -> Result<List<Slot>, NoMemory>
     ensures { IfOk result (λ slots. slots ≡ firsts reads.now) }
 {
     let mut slots = List::new(alloc);
     for slot in reads {
-        if !has(slots.as_slice(), slot) {
-            slots.add(slot.copy(alloc)?)?;
-        }
+        add_first(alloc, &mut slots, slot)?;
     }
     Ok(slots)
 }

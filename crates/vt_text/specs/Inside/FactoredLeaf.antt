@@ -4,7 +4,7 @@ use Rattle.vt_grammar.specs.declared.symbol.Symbol.TheVariants as symbol
 use Rattle.vt_grammar.specs.Grammar.{Grammar, nothing, token, alt, made}
 use Rattle.vt_grammar.specs.Forms.{◌&◌}
 use Rattle.vt_text.specs.Words.{identifier, feature_name, number, string}
-use Rattle.vt_text.specs.ExpressionRules.{truth}
+use Rattle.vt_text.specs.ExpressionRules.{truth, disjunction, operand}
 use Rattle.vt_text.specs.declared.tree.ExprTree.{ExprTree}
 use Rattle.vt_text.specs.declared.tree.ExprTree.TheVariants as tree
 
@@ -30,3 +30,7 @@ named attributes = made (λ x. x.1 x.0) (identifier & name_rest attributes)
 
 unfoldable pub leaf : Bool → Grammar ExprTree
 leaf attributes = alt (made tree.Int number) (alt (made tree.Text string) (alt (made tree.Bool truth) (named attributes)))
+
+-- an expression as it is read
+unfoldable pub read_as : Bool → Grammar ExprTree
+read_as attributes = disjunction (operand (leaf attributes) 64)

@@ -1,5 +1,5 @@
 -- What is meant by expressions as they are written, over lists as loops go.
-use Rattle.std.specs.Prelude.{◌≡◌, List, [], ◌∷◌, ◌++◌, filter, not, Option, Some, None, option_map, Result, Ok, Err}
+use Rattle.std.specs.Prelude.{◌≡◌, List, [], ◌∷◌, ◌++◌, filter, not, if◌then◌else◌, Option, Some, None, option_map, Result, Ok, Err}
 use Rattle.std.specs.List.{list_any}
 use Rattle.vt_facts.specs.Parts.{◌>>=◌}
 use Rattle.vt_base.specs.Names.{EnumNames}
@@ -14,6 +14,10 @@ use Rattle.vt_text.specs.Parsing.{is_slot, reads, firsts, expr_of}
 abbrev pub operand_reads : List OperandTree → List Slot
 operand_reads [] = []
 operand_reads (o ∷ os) = reads o.expr ++ operand_reads os
+
+-- those, and one more where it isn't among them
+unfoldable pub with_first : List Slot → Slot → List Slot
+with_first there slot = if list_any (λ own. is_slot own slot) there then there else there ++ slot ∷ []
 
 -- each once where it first stands, but those that are there
 unfoldable pub beyond : List Slot → List Slot → List Slot
