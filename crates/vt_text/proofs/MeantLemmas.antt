@@ -1,5 +1,5 @@
 -- What is meant by what is spelled.
-use Rattle.std.proofs.Common.{◌≡◌, Bool, List, Some, None, Result, Ok, Err, IfOk, IfErr, refl, sym, ◌∙◌, ap}
+use Rattle.std.proofs.Common.{◌≡◌, Bool, List, Some, None, Result, Ok, Err, IfOk, IfErr, sym, ◌∙◌, ap, subst}
 use Rattle.vt_base.specs.Names.{EnumNames}
 use Rattle.vt_grammar.specs.declared.lexeme.Lexeme.{Lexeme}
 use Rattle.vt_grammar.specs.Grammar.{Spells}
@@ -36,3 +36,10 @@ module _ (attributes : Bool) (enums : List EnumNames) (ls : List Lexeme) (tree :
   refused_of (Err NotExpr) m = absurd m
   refused_of (Err UnknownLiteral) m = record { tree = tree; spelled = spelled; none = m }
   refused_of (Err NoMemory) m = tt
+
+-- the same of the same lexemes
+pub parsed_of_same : (attributes : Bool) (enums : List EnumNames) (ls ms : List Lexeme) (parsed : Parsed) → IsParsed attributes enums ls parsed → ls ≡ ms → IsParsed attributes enums ms parsed
+parsed_of_same attributes enums ls ms parsed p e = subst (λ l. IsParsed attributes enums l parsed) e p
+
+pub fault_of_same : (attributes : Bool) (enums : List EnumNames) (ls ms : List Lexeme) (fault : ExprFault) → IsFaultOf attributes enums ls fault → ls ≡ ms → IsFaultOf attributes enums ms fault
+fault_of_same attributes enums ls ms fault f e = subst (λ l. IsFaultOf attributes enums l fault) e f

@@ -46,7 +46,7 @@ same_slot : (a b : Slot) → is_slot a b ≡ true → a ≡ b
 same_slot a b h =
     let name : a.name ≡ b.name = same_bytes a.name b.name (and_left (is_name a.name b.name) (is_attr a.attr b.attr) h) in
     let attr : a.attr ≡ b.attr = same_attr a.attr b.attr (and_right (is_name a.name b.name) (is_attr a.attr b.attr) h) in
-    ap (λ n. record { name = n; attr = a.attr }) name ∙ ap (λ t. record { name = b.name; attr = t }) attr
+    λ i. record { name = name i; attr = attr i }
 
 -- ---- two filters as one
 

@@ -110,7 +110,7 @@ pub fn read_expr<N: Names>(
 
 /// The expression that tokens of a text spell, over its slots. In rules an attribute of a variable
 /// is a slot too.
-#[tactic(auto, using(crate::proofs::LexemeLemmas::each_among))]
+#[tactic(auto, using(crate::proofs::LexemeLemmas::each_among, crate::proofs::MeantLemmas::parsed_of_same, crate::proofs::MeantLemmas::fault_of_same))]
 pub fn parse_expr<N: Names>(
     alloc: Global,
     text: &str,
@@ -129,5 +129,6 @@ pub fn parse_expr<N: Names>(
         IsFaultOf attributes (N.enums names.now) (lexemes_of text.now tokens.now) fault) }
 {
     let lexemes = each(alloc, text, tokens)?;
-    read_expr(alloc, lexemes.as_slice(), attributes, names)
+    let parsed = read_expr(alloc, lexemes.as_slice(), attributes, names)?;
+    Ok(parsed)
 }

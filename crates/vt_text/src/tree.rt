@@ -5,7 +5,7 @@ use std::alloc::Global;
 use vt_base::{NoMemory, Plain, Text};
 
 /// What an expression reads from outside: a variable or, in rules, an attribute of one.
-#[derive(Debug, PartialEq, Eq, PartialOrd, Ord, Drop)]
+#[derive(Debug, PartialEq, Eq, Drop)]
 pub struct Slot {
     pub name: Text,
     pub attr: Option<Text>,

@@ -1,6 +1,6 @@
 //! Expressions as they are written, with their kind, their value and their slots.
 use super::repeated;
-use crate::{Expr, ExprFault, Parsed, Slot, lexemes, read_expr, tokens};
+use crate::{Expr, ExprFault, Parsed, Slot, all_are_among, lexemes, parse_expr, read_expr, tokens};
 use std::alloc::Global;
 use std::test::Fail;
 use vt_base::{Kind, List, Names, ObjId, Plain, Text, Value};
@@ -314,6 +314,32 @@ fn unary_operators_and_parentheses_nest_64_deep(rt: HostRuntime) -> Result<(), F
     assert_eq!(rt; nested(alloc, "-(", "1", ")", 33)?.as_str(), none);
     assert_eq!(rt; nested(alloc, "(1 + ", "-1", ")", 63)?.as_str(), "int 62");
     assert_eq!(rt; nested(alloc, "(1 + ", "-1", ")", 64)?.as_str(), none);
+    Ok(())
+}
+
+// ---- tokens of a text
+
+fn of_tokens(alloc: Global, text: &str) -> Result<Parsed, Fail> {
+    if text.len() >= 1_000_000 {
+        return Err(Fail::new("too long"));
+    }
+    let tokens = tokens(alloc, text)?;
+    let names = sizes(alloc)?;
+    all_are_among();
+    Ok(parse_expr(alloc, text, tokens.as_slice(), true, &names)?)
+}
+
+#[test]
+fn tokens_are_parsed(rt: HostRuntime) -> Result<(), Fail> {
+    let alloc = rt.alloc();
+    let parsed = of_tokens(alloc, "a.x + b == 13 && e == Size::find")?;
+    let slots = parsed.slots.as_slice();
+    assert_eq!(rt;
+        shown(alloc, &parsed.expr, slots)?.as_str(),
+        "bool true a.x b e"
+    );
+    assert!(rt; of_tokens(alloc, "a +").is_err());
+    assert!(rt; of_tokens(alloc, "Size::a").is_err());
     Ok(())
 }
 
