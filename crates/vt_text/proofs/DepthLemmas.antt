@@ -179,18 +179,23 @@ comparison_sign_known = record { decided = refl; some = refl; ends = λ s. refl 
 
 module _ (a : Grammar ExprTree) (k : IsOperand leaf_ends a) where
   product_known : IsOperand product_ends (product a)
+  unfolding product
   product_known = chain_known product_sign a leaf_ends (sign_known Product) k refl
 
   sum_known : IsOperand sum_ends (sum a)
+  unfolding sum
   sum_known = chain_known sum_sign (product a) product_ends (sign_known Sum) product_known refl
 
   comparison_known : IsOperand comparison_ends (comparison a)
+  unfolding comparison
   comparison_known = pair_known comparison_sign (sum a) sum_ends comparison_sign_known sum_known refl
 
   conjunction_known : IsOperand conjunction_ends (conjunction a)
+  unfolding conjunction
   conjunction_known = chain_known and_sign (comparison a) comparison_ends (sign_known And) comparison_known refl
 
   disjunction_known : IsOperand disjunction_ends (disjunction a)
+  unfolding disjunction
   disjunction_known = chain_known or_sign (conjunction a) conjunction_ends (sign_known Or) conjunction_known refl
 
   pub level_star : (level : Level) → is_decided (star (further (sign_at level) (below level a))) ≡ true

@@ -120,9 +120,11 @@ module _ (a b : Grammar ExprTree) (s : SameAs a b) where
 
 module _ (a b : Grammar ExprTree) (s : SameAs a b) where
   same_sum : SameAs (sum a) (sum b)
+  unfolding sum product
   same_sum = same_chain (product a) (product b) (same_chain a b s product_sign) sum_sign
 
   same_disjunction : SameAs (disjunction a) (disjunction b)
+  unfolding disjunction conjunction comparison
   same_disjunction = same_chain (conjunction a) (conjunction b) (same_chain (comparison a) (comparison b) (same_pair (sum a) (sum b) same_sum comparison_sign) and_sign) or_sign
 
   same_negative : SameAs (negative a) (negative b)

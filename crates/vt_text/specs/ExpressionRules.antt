@@ -95,23 +95,23 @@ abbrev pub product_sign : Grammar Operator
 product_sign = alt (sign symbol.Times operator.Times) (alt (sign symbol.Divided operator.Divided) (sign symbol.Remainder operator.Remainder))
 
 -- mul = un { ("*" | "/" | "%") un }
-abbrev pub product : Grammar ExprTree → Grammar ExprTree
+unfoldable pub product : Grammar ExprTree → Grammar ExprTree
 product operand = chain product_sign operand
 
 -- add = mul { ("+" | "-") mul }
-abbrev pub sum : Grammar ExprTree → Grammar ExprTree
+unfoldable pub sum : Grammar ExprTree → Grammar ExprTree
 sum operand = chain sum_sign (product operand)
 
 -- cmp = add [ ("==" | "!=" | "<" | "<=" | ">" | ">=") add ]
-abbrev pub comparison : Grammar ExprTree → Grammar ExprTree
+unfoldable pub comparison : Grammar ExprTree → Grammar ExprTree
 comparison operand = pair comparison_sign (sum operand)
 
 -- and = cmp { "&&" cmp }
-abbrev pub conjunction : Grammar ExprTree → Grammar ExprTree
+unfoldable pub conjunction : Grammar ExprTree → Grammar ExprTree
 conjunction operand = chain and_sign (comparison operand)
 
 -- expr = and { "||" and }
-abbrev pub disjunction : Grammar ExprTree → Grammar ExprTree
+unfoldable pub disjunction : Grammar ExprTree → Grammar ExprTree
 disjunction operand = chain or_sign (conjunction operand)
 
 -- ---- what nests

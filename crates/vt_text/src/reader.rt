@@ -59,7 +59,7 @@ fn paired(alloc: Global, first: ExprTree, second: Option<OperandTree>) -> Result
 
 // An operand of a level.
 #[cycle(read)]
-#[tactic(auto, unfolding(vt_grammar::specs::Reading::read))]
+#[tactic(auto, unfolding(crate::specs::ExpressionRules::conjunction, crate::specs::ExpressionRules::product))]
 fn below(
     alloc: Global,
     lexemes: &[Lexeme],
@@ -138,6 +138,21 @@ fn chain(
     Ok((tree, rest))
 }
 
+// A sum, which is what is compared.
+#[cycle(read)]
+#[tactic(auto, unfolding(crate::specs::ExpressionRules::sum))]
+fn sum(
+    alloc: Global,
+    lexemes: &[Lexeme],
+    attributes: bool,
+    depth: u32,
+) -> Result<(ExprTree, &[Lexeme]), Stop>
+    ensures { Gives (λ x. (x.0, x.1.now)) result
+        (reading (sum (operand (leaf attributes) depth)) lexemes.now) }
+{
+    chain(alloc, lexemes, attributes, depth, Level::Sum)
+}
+
 // What is compared with what stands before it, if something is.
 #[cycle(read)]
 #[tactic(auto, unfolding(vt_grammar::specs::Reading::read))]
@@ -152,7 +167,7 @@ fn compared(
 {
     if compares(lexemes) {
         let (operator, rest) = comparison_sign(lexemes)?;
-        let (expr, rest) = chain(alloc, rest, attributes, depth, Level::Sum)?;
+        let (expr, rest) = sum(alloc, rest, attributes, depth)?;
         Ok((Some(OperandTree { operator, expr }), rest))
     } else {
         Ok((None, lexemes))
@@ -160,7 +175,7 @@ fn compared(
 }
 
 #[cycle(read)]
-#[tactic(auto, unfolding(vt_grammar::specs::Reading::read))]
+#[tactic(auto, unfolding(vt_grammar::specs::Reading::read, crate::specs::ExpressionRules::comparison))]
 fn comparison(
     alloc: Global,
     lexemes: &[Lexeme],
@@ -170,10 +185,25 @@ fn comparison(
     ensures { Gives (λ x. (x.0, x.1.now)) result
         (reading (comparison (operand (leaf attributes) depth)) lexemes.now) }
 {
-    let (first, rest) = chain(alloc, lexemes, attributes, depth, Level::Sum)?;
+    let (first, rest) = sum(alloc, lexemes, attributes, depth)?;
     let (second, rest) = compared(alloc, rest, attributes, depth)?;
     let tree = paired(alloc, first, second)?;
     Ok((tree, rest))
+}
+
+// Any expression.
+#[cycle(read)]
+#[tactic(auto, unfolding(crate::specs::ExpressionRules::disjunction))]
+fn disjunction(
+    alloc: Global,
+    lexemes: &[Lexeme],
+    attributes: bool,
+    depth: u32,
+) -> Result<(ExprTree, &[Lexeme]), Stop>
+    ensures { Gives (λ x. (x.0, x.1.now)) result
+        (reading (disjunction (operand (leaf attributes) depth)) lexemes.now) }
+{
+    chain(alloc, lexemes, attributes, depth, Level::Or)
 }
 
 // ---- what nests
@@ -222,7 +252,7 @@ fn enclosed(
         (reading (enclosed (disjunction (operand (leaf attributes) depth))) lexemes.now) }
 {
     let (_, rest) = one(lexemes, Symbol::LeftParen)?;
-    let (inner, rest) = chain(alloc, rest, attributes, depth, Level::Or)?;
+    let (inner, rest) = disjunction(alloc, rest, attributes, depth)?;
     let (_, rest) = one(rest, Symbol::RightParen)?;
     Ok((inner, rest))
 }
@@ -271,5 +301,5 @@ pub(crate) fn front(
     ensures { Gives (λ x. (x.0, x.1.now)) result
         (reading (read_as attributes) lexemes.now) }
 {
-    chain(alloc, lexemes, attributes, DEEPEST, Level::Or)
+    disjunction(alloc, lexemes, attributes, DEEPEST)
 }

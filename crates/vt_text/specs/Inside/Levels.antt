@@ -27,7 +27,7 @@ at level operand = chain (sign_at level) (below level operand)
 
 -- how many calls a level may take until it comes to an operand
 abbrev pub rank : Level → ℕ
-rank Or = 14
-rank And = 10
+rank Or = 16
+rank And = 12
 rank Sum = 4
 rank Product = 0

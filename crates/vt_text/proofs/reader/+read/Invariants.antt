@@ -24,11 +24,17 @@ decreases-operands l = 24 * l.depth + rank l.level + 3
 abbrev pub decreases-chain : goal.decreases-chain
 decreases-chain l = 24 * l.depth + rank l.level + 4
 
+abbrev pub decreases-sum : goal.decreases-sum
+decreases-sum l = 24 * l.depth + 9
+
+abbrev pub decreases-disjunction : goal.decreases-disjunction
+decreases-disjunction l = 24 * l.depth + 21
+
 abbrev pub decreases-compared : goal.decreases-compared
-decreases-compared l = 24 * l.depth + 9
+decreases-compared l = 24 * l.depth + 10
 
 abbrev pub decreases-comparison : goal.decreases-comparison
-decreases-comparison l = 24 * l.depth + 10
+decreases-comparison l = 24 * l.depth + 11
 
 abbrev pub decreases-negative : goal.decreases-negative
 decreases-negative l = 24 * l.depth + 1
@@ -37,7 +43,7 @@ abbrev pub decreases-negation : goal.decreases-negation
 decreases-negation l = 24 * l.depth + 1
 
 abbrev pub decreases-enclosed : goal.decreases-enclosed
-decreases-enclosed l = 24 * l.depth + 19
+decreases-enclosed l = 24 * l.depth + 22
 
 -- ---- what is left of a chain is read behind its operands so far
 
