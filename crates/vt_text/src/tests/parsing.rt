@@ -3,9 +3,10 @@ use super::repeated;
 use crate::{Expr, ExprFault, Parsed, Slot, all_are_among, lexemes, parse_expr, read_expr, tokens};
 use std::alloc::Global;
 use std::test::Fail;
-use vt_base::{Kind, List, Names, ObjId, Plain, Text, Value};
+use vt_base::{Kind, List, Names, NoMemory, ObjId, Plain, Text, Value};
 
 // One enum with two literals.
+#[derive(Drop)]
 struct Sizes {
     size: Text,
     small: Text,
@@ -44,7 +45,7 @@ impl Names for Sizes {
     }
 }
 
-fn sizes(alloc: Global) -> Result<Sizes, Fail> {
+fn sizes(alloc: Global) -> Result<Sizes, NoMemory> {
     Ok(Sizes {
         size: Text::new(alloc, "Size")?,
         small: Text::new(alloc, "SMALL")?,
@@ -131,20 +132,21 @@ fn parsed(alloc: Global, text: &str, attributes: bool) -> Result<Parsed, ExprFau
         Err(_) => return Err(ExprFault::NoMemory),
     };
     let lexemes = lexemes(alloc, text, tokens.as_slice())?;
-    let names = match sizes(alloc) {
-        Ok(names) => names,
-        Err(_) => return Err(ExprFault::NoMemory),
-    };
+    let names = sizes(alloc)?;
     read_expr(alloc, lexemes.as_slice(), attributes, &names)
 }
 
-fn outcome(alloc: Global, text: &str, attributes: bool) -> Result<String, Fail> {
-    match parsed(alloc, text, attributes) {
+fn told(alloc: Global, parsed: Result<Parsed, ExprFault>) -> Result<String, Fail> {
+    match parsed {
         Ok(parsed) => shown(alloc, &parsed.expr, parsed.slots.as_slice()),
         Err(ExprFault::NotExpr) => Ok(String::from_str(alloc, "no expression")?),
         Err(ExprFault::UnknownLiteral) => Ok(String::from_str(alloc, "unknown literal")?),
         Err(ExprFault::NoMemory) => Ok(String::from_str(alloc, "no memory")?),
     }
+}
+
+fn outcome(alloc: Global, text: &str, attributes: bool) -> Result<String, Fail> {
+    told(alloc, parsed(alloc, text, attributes))
 }
 
 // ---- levels, and what groups from the left
@@ -319,27 +321,28 @@ fn unary_operators_and_parentheses_nest_64_deep(rt: HostRuntime) -> Result<(), F
 
 // ---- tokens of a text
 
-fn of_tokens(alloc: Global, text: &str) -> Result<Parsed, Fail> {
+fn of_tokens(alloc: Global, text: &str) -> Result<Parsed, ExprFault> {
     if text.len() >= 1_000_000 {
-        return Err(Fail::new("too long"));
+        return Err(ExprFault::NoMemory);
     }
-    let tokens = tokens(alloc, text)?;
+    let tokens = match tokens(alloc, text) {
+        Ok(tokens) => tokens,
+        Err(_) => return Err(ExprFault::NoMemory),
+    };
     let names = sizes(alloc)?;
     all_are_among();
-    Ok(parse_expr(alloc, text, tokens.as_slice(), true, &names)?)
+    parse_expr(alloc, text, tokens.as_slice(), true, &names)
 }
 
 #[test]
 fn tokens_are_parsed(rt: HostRuntime) -> Result<(), Fail> {
     let alloc = rt.alloc();
-    let parsed = of_tokens(alloc, "a.x + b == 13 && e == Size::find")?;
-    let slots = parsed.slots.as_slice();
-    assert_eq!(rt;
-        shown(alloc, &parsed.expr, slots)?.as_str(),
-        "bool true a.x b e"
-    );
-    assert!(rt; of_tokens(alloc, "a +").is_err());
-    assert!(rt; of_tokens(alloc, "Size::a").is_err());
+    let whole = told(alloc, of_tokens(alloc, "a.x + b == 13 && e == Size::find"))?;
+    assert_eq!(rt; whole.as_str(), "bool true a.x b e");
+    let cut = told(alloc, of_tokens(alloc, "a +"))?;
+    assert_eq!(rt; cut.as_str(), "no expression");
+    let other = told(alloc, of_tokens(alloc, "Size::a"))?;
+    assert_eq!(rt; other.as_str(), "unknown literal");
     Ok(())
 }
 
