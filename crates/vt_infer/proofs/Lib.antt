@@ -1,2 +1,4 @@
 mod ExpressionLemmas
 mod KindLemmas
+mod FoundLemmas
+mod BodyLemmas
