@@ -30,7 +30,7 @@ use Rattle.vt_infer.specs.Inside.ExpressionFound.{expression_kinds}
 use Rattle.vt_infer.specs.Inside.Placing.{parameter_kinds, term_kinds, origin_kinds, target_of, given, all_given, all_placed, round, rounds, with_type, with_types, IsAllOf}
 use Rattle.vt_infer.specs.declared.places.Place.{Place}
 use Rattle.vt_infer.proofs.KindLemmas.{Taken, same_kind-is, same_kind-itself, among_one, one_among, can_have, is_found}
-use Rattle.vt_infer.proofs.FoundLemmas.{IsNew, Taken-with_kind, Grows, Grows-Adds, Taken-Adds, length-Adds, Adds-with_kinds, Adds-given, Adds-all_given, Adds-round, Adds-rounds, Adds-with_type, Adds-with_types, Adds-trans, with_kinds-closed, nothing-none}
+use Rattle.vt_infer.proofs.FoundLemmas.{IsNew, Taken-with_kind, Grows, Grows-Adds, Taken-Adds, length-Adds, Adds-with_kinds, Adds-given, Adds-all_given, Adds-round, Adds-rounds, Adds-with_type, Adds-with_types, Adds-trans, with_kinds-closed, nothing-none, with_kind-has}
 
 -- ---- which patterns the places of a constraint speak of
 
@@ -257,7 +257,21 @@ module _ (meta : Metamodel) (program : Program) (known : List (List (List Kind))
 -- what declared types give is found
 with_types-has : (params : List Param) (i : ℕ) (f : Found) (x : ℕ) (p : Param) (type : Ty) → i + x < length f.kinds → slice_get params x ≡ Some p → p.ty ≡ Some type
     → Taken (with_types f i params).kinds (i + x) (type_kind type)
-with_types-has params i f x p type below at is = ?
+with_types-has [] i f x p type below at is = absurd (none-some p at)
+with_types-has (q ∷ params) i f zero p type below at is =
+    let same : q.ty ≡ Some type = ap (λ r. r.ty) (same_Some q p at) ∙ is in
+    let here : i < length f.kinds = omega arith in
+    let first : Taken (with_type f i q.ty).kinds i (type_kind type) = subst (λ o. Taken (with_type f i o).kinds i (type_kind type)) (sym same) (with_kind-has f i (type_kind type) here) in
+    let one = with_type f i q.ty in
+    let e : i ≡ i + 0 = omega arith in
+    subst (λ n. Taken (with_types one (i + 1) params).kinds n (type_kind type)) e
+    (Taken-Adds one (with_types one (i + 1) params) (Adds-with_types one (i + 1) params) i (type_kind type) first)
+with_types-has (q ∷ params) i f (suc x) p type below at is =
+    let one = with_type f i q.ty in
+    let e : (i + 1) + x ≡ i + suc x = omega arith in
+    let count : length one.kinds ≡ length f.kinds = length-Adds f one (Adds-with_type f i q.ty) in
+    subst (λ n. Taken (with_types one (i + 1) params).kinds n (type_kind type)) e
+    (with_types-has params (i + 1) one x p type (omega (arith, count)) at is)
 
 -- the kinds that are found for a body are exactly those that its variables get
 pub record TellsKinds (meta : Metamodel) (program : Program) (pattern : Pattern) (body : Body) (known : List (List (List Kind))) (kinds : List (List Kind)) : Type 0 where
@@ -274,3 +288,36 @@ pub record TellsKinds (meta : Metamodel) (program : Program) (pattern : Pattern)
       → is_among k (origin_kinds known kinds origin) ≡ true → Has meta program pattern body origin k
   pub free_all : (origin : Origin) (k : Kind) → ((p : PatternId) (j : ℕ) → origin ≡ Parameter p j → ⊥)
       → Has meta program pattern body origin k → is_among k (origin_kinds known kinds origin) ≡ true
+
+pub TellsKinds-all : (meta : Metamodel) (program : Program) (pattern : Pattern) (body : Body) (of : Contains pattern.bodies body)
+    (known : List (List (List Kind))) (knows : KnowsCalled meta program pattern known) (kinds : List (List Kind))
+    → IsAllOf meta known pattern body kinds → TellsKinds meta program pattern body known kinds
+unfolding Sound Closed
+TellsKinds-all meta program pattern body of known knows kinds a =
+    let f : Found = record { kinds = kinds; count = a.count } in
+    let start : Found = with_types (nothing body.vars) 0 pattern.params in
+    let last : Found = rounds meta known body.constraints a.n start in
+    let rows : length start.kinds ≡ body.vars = length-Adds (nothing body.vars) start (Adds-with_types (nothing body.vars) 0 pattern.params) ∙ length-replicate body.vars [] in
+    let count : length kinds ≡ body.vars = ap (λ g. length g.kinds) a.reached ∙ length-Adds start last (Adds-rounds meta known body.constraints a.n start) ∙ rows in
+    let sound : Sound meta program pattern body of known knows kinds = subst (λ g. Sound meta program pattern body of known knows g.kinds) (sym a.reached)
+            (rounds-sound meta program pattern body of known knows a.n start rows
+                (with_types-sound meta program pattern body of known knows pattern.params 0 (nothing body.vars) (λ x p at. subst (λ n. slice_get pattern.params n ≡ Some p) (omega arith) at)
+                    (length-replicate body.vars []) (nothing-sound meta program pattern body of known knows))) in
+    let still : (round meta known f body.constraints).count ≤ f.count = omega (arith, ap (λ g. g.count) a.still) in
+    let closed : Closed meta program pattern body of known knows kinds = λ c x origin k there place below among.
+            round-closed meta program pattern body of known knows body.constraints f still c x origin k there place (subst (λ n. x < n) (sym count) below) among in
+    let types : (x : ℕ) (p : Param) (type : Ty) → x < body.vars → slice_get pattern.params x ≡ Some p → p.ty ≡ Some type → Taken kinds x (type_kind type) =
+            λ x p type below at is. subst (λ g. Taken g.kinds x (type_kind type)) (sym a.reached)
+                (Taken-Adds start last (Adds-rounds meta known body.constraints a.n start) x (type_kind type)
+                    (subst (λ n. Taken start.kinds n (type_kind type)) (omega arith) (with_types-has pattern.params 0 (nothing body.vars) x p type (omega (arith, length-replicate body.vars [])) at is))) in
+    record {
+      count = count;
+      so = sound;
+      all = λ x k gets. origin_all meta program known kinds pattern body (Alike (Var x)) k gets of knows closed types (λ p j e. cc);
+      place_so = λ c t origin k there place among. origin_so meta program pattern body of known knows kinds sound origin
+          (IsPlaced-place meta program pattern body of known knows c t origin there place) k among;
+      place_all = λ c t origin k there place has. origin_all meta program known kinds pattern body origin k has of knows closed types
+          (IsPlaced-place meta program pattern body of known knows c t origin there place);
+      free_so = λ origin k free among. origin_so meta program pattern body of known knows kinds sound origin (λ p j e. absurd (free p j e)) k among;
+      free_all = λ origin k free has. origin_all meta program known kinds pattern body origin k has of knows closed types (λ p j e. absurd (free p j e));
+    }

@@ -6,7 +6,7 @@ use Rattle.std.proofs.lemmas.Bool.{false≢true, or_cases, cases_eq}
 use Rattle.std.proofs.lemmas.List.{length-set, length-replicate}
 use Rattle.std.proofs.lemmas.List.Folds.{list_any-append}
 use Rattle.std.proofs.lemmas.Option.{slice_get_within, unwrap_or-slice_get}
-use Rattle.vt_facts.proofs.BoolLemmas.{or_left}
+use Rattle.vt_facts.proofs.BoolLemmas.{or_left, or_right}
 use Rattle.vt_base.specs.declared.value.Kind.{Kind}
 use Rattle.vt_model.specs.Metamodel.{Metamodel}
 use Rattle.vt_query.specs.declared.program.Constraint.{Constraint}
@@ -124,6 +124,12 @@ rows_in : (f : Found) (x : ℕ) (k : Kind) (o : Option (List Kind)) → length (
 rows_in f x k None = refl
 rows_in f x k (Some row) = rows_if (is_among k row) f x (row ++ k ∷ [])
 
+-- a place below the length has an item
+slice_get_below : (kinds : List (List Kind)) (x : ℕ) → x < length kinds → slice_get kinds x ≡ None → ⊥
+slice_get_below [] x below e = absurd (omega arith)
+slice_get_below (row ∷ kinds) zero below e = cc
+slice_get_below (row ∷ kinds) (suc x) below e = slice_get_below kinds x (omega arith) e
+
 -- where nothing has changed the kind is taken
 there_if : (b : Bool) (f : Found) (x : ℕ) (k : Kind) (row : List Kind) → slice_get f.kinds x ≡ Some row → is_among k row ≡ b
     → (if b then f else record { kinds = slice_set f.kinds x (row ++ k ∷ []); count = f.count + 1 }).count ≤ f.count → Taken f.kinds x k
@@ -132,13 +138,23 @@ there_if false f x k row at e h = absurd (omega arith)
 
 there_in : (f : Found) (x : ℕ) (k : Kind) (o : Option (List Kind)) → slice_get f.kinds x ≡ o → x < length f.kinds
     → (with_kind_in f x k o).count ≤ f.count → Taken f.kinds x k
-there_in f x k None at below h = absurd (some_below f.kinds x below at)
-  where
-    some_below : (kinds : List (List Kind)) (x : ℕ) → x < length kinds → slice_get kinds x ≡ None → ⊥
-    some_below [] x below e = absurd (omega arith)
-    some_below (row ∷ kinds) zero below e = cc
-    some_below (row ∷ kinds) (suc x) below e = some_below kinds x (omega arith) e
+there_in f x k None at below h = absurd (slice_get_below f.kinds x below at)
 there_in f x k (Some row) at below h = there_if (is_among k row) f x k row at refl h
+
+-- one more kind is taken, where the variable is there
+has_if : (b : Bool) (f : Found) (x : ℕ) (k : Kind) (row : List Kind) → slice_get f.kinds x ≡ Some row → is_among k row ≡ b
+    → Taken (if b then f else record { kinds = slice_set f.kinds x (row ++ k ∷ []); count = f.count + 1 }).kinds x k
+has_if true f x k row at e = subst (λ r. is_among k r ≡ true) (sym (kinds_at-some f.kinds x row at)) e
+has_if false f x k row at e =
+    let among : is_among k (row ++ k ∷ []) ≡ true = list_any-append (same_kind k) row (k ∷ []) ∙ or_right (is_among k row) (is_among k (k ∷ [])) (one_among k k refl) in
+    subst (λ r. is_among k r ≡ true) (sym (kinds_at-set_same f.kinds x (row ++ k ∷ []) (slice_get_within f.kinds x row at))) among
+
+has_in : (f : Found) (x : ℕ) (k : Kind) (o : Option (List Kind)) → slice_get f.kinds x ≡ o → x < length f.kinds → Taken (with_kind_in f x k o).kinds x k
+has_in f x k None at below = absurd (slice_get_below f.kinds x below at)
+has_in f x k (Some row) at below = has_if (is_among k row) f x k row at refl
+
+pub with_kind-has : (f : Found) (x : ℕ) (k : Kind) → x < length f.kinds → Taken (with_kind f x k).kinds x k
+with_kind-has f x k below = has_in f x k (slice_get f.kinds x) refl below
 
 -- ---- more kinds, one after the other
 

@@ -2,3 +2,4 @@ mod ExpressionLemmas
 mod KindLemmas
 mod FoundLemmas
 mod BodyLemmas
+mod ClashLemmas
