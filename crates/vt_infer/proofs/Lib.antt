@@ -3,3 +3,4 @@ mod KindLemmas
 mod FoundLemmas
 mod BodyLemmas
 mod ClashLemmas
+mod CallLemmas
