@@ -4,3 +4,4 @@ mod FoundLemmas
 mod BodyLemmas
 mod ClashLemmas
 mod CallLemmas
+mod BoundLemmas
