@@ -240,16 +240,16 @@ module _ (meta : Metamodel) (program : Program) (known : List (List (List Kind))
       → ((x : ℕ) (p : Param) (type : Ty) → x < body.vars → slice_get pattern.params x ≡ Some p → p.ty ≡ Some type → Taken kinds x (type_kind type))
       → IsPlaced meta program pattern body of known knows origin → is_among k (origin_kinds known kinds origin) ≡ true
   unfolding Closed
-  origin_all pattern body origin k (fixed pattern body k) of knows closed types is = one_among k k refl
-  origin_all pattern body origin k (literal pattern body v) of knows closed types is = one_among (kind_of v) (kind_of v) refl
-  origin_all pattern body origin k (declared pattern body x param type below at ty) of knows closed types is = types x param type below at ty
-  origin_all pattern body origin k (placed pattern body x c from k below there place has) of knows closed types is =
+  origin_all _ _ _ _ (fixed pattern body k) of knows closed types is = one_among k k refl
+  origin_all _ _ _ _ (literal pattern body v) of knows closed types is = one_among (kind_of v) (kind_of v) refl
+  origin_all _ _ _ _ (declared pattern body x param type below at ty) of knows closed types is = types x param type below at ty
+  origin_all _ _ _ _ (placed pattern body x c from k below there place has) of knows closed types is =
       closed c x from k there place below
       (origin_all pattern body from k has of knows closed types (IsPlaced-place meta program pattern body of known knows c (Var x) from there place))
-  origin_all pattern body origin k (parameter pattern body p j called other k at within inside has) of knows closed types is =
+  origin_all _ _ _ _ (parameter pattern body p j called other k at within inside has) of knows closed types is =
       let found = is p j refl in
       knows.all body body pattern found.0 p j k of found.1 found.2 (parameter pattern body p j called other k at within inside has)
-  origin_all pattern body origin k (result pattern body e slots k taken got can) of knows closed types is =
+  origin_all _ _ _ _ (result pattern body e slots k taken got can) of knows closed types is =
       is_found kinds slots (λ x l. taken x l ≡ true) (λ x l t. origin_all pattern body (Alike (Var x)) l (got x l t) of knows closed types (λ p j e. cc)) e k can
 
 -- ---- a body

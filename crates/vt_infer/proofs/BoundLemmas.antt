@@ -67,19 +67,19 @@ pub data More : Marked → Marked → Type 0 where
   one_more : (m n : Marked) (x : ℕ) → More (with_mark m x) n → More m n
 
 More-trans : (l m n : Marked) → More l m → More m n → More l n
-More-trans l m n (none_more l) more = more
-More-trans l m n (one_more l m x first) more = one_more l n x (More-trans (with_mark l x) m n first more)
+More-trans _ _ n (none_more l) more = more
+More-trans _ _ n (one_more l m x first) more = one_more l n x (More-trans (with_mark l x) m n first more)
 
 pub Rises-More : (m n : Marked) → More m n → Rises m n
-Rises-More m n (none_more m) = record { count = omega arith; same = λ h. refl }
-Rises-More m n (one_more m n x first) =
+Rises-More _ _ (none_more m) = record { count = omega arith; same = λ h. refl }
+Rises-More _ _ (one_more m n x first) =
     let one : Rises m (with_mark m x) = rises_in m x (slice_get m.marks x) in
     let rest : Rises (with_mark m x) n = Rises-More (with_mark m x) n first in
     record { count = omega (arith, one.count, rest.count); same = λ h. rest.same (omega (arith, one.count, h)) ∙ one.same (omega (arith, rest.count, h)) }
 
 length-More : (m n : Marked) → More m n → length n.marks ≡ length m.marks
-length-More m n (none_more m) = refl
-length-More m n (one_more m n x first) = length-More (with_mark m x) n first ∙ length_in m x (slice_get m.marks x)
+length-More _ _ (none_more m) = refl
+length-More _ _ (one_more m n x first) = length-More (with_mark m x) n first ∙ length_in m x (slice_get m.marks x)
 
 More-with_marks : (m : Marked) (xs : List ℕ) → More m (with_marks m xs)
 More-with_marks m [] = none_more m
@@ -218,7 +218,7 @@ module _ (body : Body) where
   pub bound_all : (marks : List Bool) → ((c : Constraint) (rule : Binds) → Contains body.constraints c → Contains (bindings c) rule
           → ((y : ℕ) → Contains rule.once y → has_mark marks y ≡ true) → (x : ℕ) → Contains rule.variables x → x < body.vars → has_mark marks x ≡ true)
       → (x : ℕ) → IsBound body x → has_mark marks x ≡ true
-  bound_all marks closed x (bound x c rule below there of inside once) = closed c rule there of (λ y o. bound_all marks closed y (once y o)) x inside below
+  bound_all marks closed _ (bound x c rule below there of inside once) = closed c rule there of (λ y o. bound_all marks closed y (once y o)) x inside below
 
 -- ---- a body
 

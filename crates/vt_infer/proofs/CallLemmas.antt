@@ -256,8 +256,8 @@ module _ (n : ℕ) where
 -- ---- paths
 
 Leads-append : (program : Program) (p q r : PatternId) → Leads program p q → Leads program q r → Leads program p r
-Leads-append program p q r (directly p q calls) more = through p q r calls more
-Leads-append program p q r (through p s q calls path) more = through p s r calls (Leads-append program s q r path more)
+Leads-append program _ _ r (directly p q calls) more = through p q r calls more
+Leads-append program _ _ r (through p s q calls path) more = through p s r calls (Leads-append program s q r path more)
 
 -- each mark is a path
 pub closed_so : (program : Program) (k : ℕ) (rows : List (List Bool)) → ((p q : ℕ) → Marks rows p q → Leads program (id p) (id q))
@@ -302,8 +302,8 @@ pub Calls-there : (program : Program) (p q : PatternId) → Calls program p q �
 Calls-there program p q calls = slice_get_within program.patterns p.0 calls.pattern calls.at
 
 pub Leads-there : (program : Program) (p q : PatternId) → Leads program p q → p.0 < length program.patterns
-Leads-there program p q (directly p q calls) = Calls-there program p q calls
-Leads-there program p r (through p q r calls path) = Calls-there program p q calls
+Leads-there program _ _ (directly p q calls) = Calls-there program p q calls
+Leads-there program _ _ (through p q r calls path) = Calls-there program p q calls
 
 -- the closed rows
 abbrev pub paths : Program → List (List Bool)
@@ -317,11 +317,11 @@ paths_so program p q e =
     closed_so program (length (call_rows program.patterns)) (call_rows program.patterns) (λ x y m. directly (id x) (id y) (call_rows-so program x y m)) p q e
 
 pub paths_all : (program : Program) (p q : PatternId) → Leads program p q → q.0 < length program.patterns → Marks (paths program) p.0 q.0
-paths_all program p q (directly p q calls) below =
+paths_all program _ _ (directly p q calls) below =
     let n = length program.patterns in
     subst (λ rows. Marks rows p.0 q.0) (sym (closed-is program))
     (closed_keeps n n (call_rows program.patterns) (omega arith) (AreWide-calls program) p.0 q.0 (Calls-there program p q calls) below (call_rows-has program p.0 q.0 calls below))
-paths_all program p r (through p q r calls path) below =
+paths_all program _ _ (through p q r calls path) below =
     let n = length program.patterns in
     let middle : q.0 < n = Leads-there program q r path in
     let c = closed_all n n (call_rows program.patterns) (omega arith) (AreWide-calls program) in

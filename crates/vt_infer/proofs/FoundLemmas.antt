@@ -163,23 +163,23 @@ pub data Adds : Found → Found → Type 0 where
   one_more : (f g : Found) (x : ℕ) (k : Kind) → Adds (with_kind f x k) g → Adds f g
 
 pub Adds-trans : (f g h : Found) → Adds f g → Adds g h → Adds f h
-Adds-trans f g h (nothing_more f) more = more
-Adds-trans f g h (one_more f g x k first) more = one_more f h x k (Adds-trans (with_kind f x k) g h first more)
+Adds-trans _ _ h (nothing_more f) more = more
+Adds-trans _ _ h (one_more f g x k first) more = one_more f h x k (Adds-trans (with_kind f x k) g h first more)
 
 pub Grows-Adds : (f g : Found) → Adds f g → Grows f g
-Grows-Adds f g (nothing_more f) = record { count = omega arith; same = λ h. refl }
-Grows-Adds f g (one_more f g x k first) =
+Grows-Adds _ _ (nothing_more f) = record { count = omega arith; same = λ h. refl }
+Grows-Adds _ _ (one_more f g x k first) =
     let one : Grows f (with_kind f x k) = grows_in f x k (slice_get f.kinds x) in
     let rest : Grows (with_kind f x k) g = Grows-Adds (with_kind f x k) g first in
     record { count = omega (arith, one.count, rest.count); same = λ h. rest.same (omega (arith, one.count, h)) ∙ one.same (omega (arith, rest.count, h)) }
 
 pub Taken-Adds : (f g : Found) → Adds f g → (y : ℕ) (l : Kind) → Taken f.kinds y l → Taken g.kinds y l
-Taken-Adds f g (nothing_more f) y l h = h
-Taken-Adds f g (one_more f g x k first) y l h = Taken-Adds (with_kind f x k) g first y l (stays_in f x k (slice_get f.kinds x) refl y l h)
+Taken-Adds _ _ (nothing_more f) y l h = h
+Taken-Adds _ _ (one_more f g x k first) y l h = Taken-Adds (with_kind f x k) g first y l (stays_in f x k (slice_get f.kinds x) refl y l h)
 
 pub length-Adds : (f g : Found) → Adds f g → length g.kinds ≡ length f.kinds
-length-Adds f g (nothing_more f) = refl
-length-Adds f g (one_more f g x k first) = length-Adds (with_kind f x k) g first ∙ rows_in f x k (slice_get f.kinds x)
+length-Adds _ _ (nothing_more f) = refl
+length-Adds _ _ (one_more f g x k first) = length-Adds (with_kind f x k) g first ∙ rows_in f x k (slice_get f.kinds x)
 
 pub Adds-with_kinds : (f : Found) (x : ℕ) (kinds : List Kind) → Adds f (with_kinds f x kinds)
 Adds-with_kinds f x [] = nothing_more f

@@ -5,3 +5,5 @@ mod BodyLemmas
 mod ClashLemmas
 mod CallLemmas
 mod BoundLemmas
+mod FirstLemmas
+mod RankLemmas

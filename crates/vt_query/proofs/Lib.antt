@@ -6,3 +6,4 @@ mod SampleLemmas
 pub mod LeanLemmas
 pub mod OrderLemmas
 pub mod LeanKindLemmas
+pub mod LeanFaultLemmas

@@ -1,0 +1,156 @@
+-- The patterns by their ranks: each after those that it calls.
+use Rattle.std.proofs.Common.{◌≡◌, ◌∙◌, ℕ, zero, suc, ◌+◌, ◌-◌, ◌<◌, ◌≤◌, ◌⊎◌, inl, inr, Bool, true, false, List, [], ◌∷◌, ◌++◌, length, map, take, Some, None, Option, slice_get, nat_eq, Contains, ap, refl, sym, subst, arith, length-append}
+use Rattle.std.specs.Prelude.{unwrap_or, if◌then◌else◌, cond, filter, count_by}
+use Rattle.std.proofs.lemmas.Bool.{false≢true, cases_lt, cases_eq, cases_Bool, eq-eqb, ne_eqb}
+use Rattle.std.proofs.lemmas.List.{length-map, take-append-le}
+use Rattle.std.proofs.lemmas.List.Sums.{length-filter, count_by-le-length}
+use Rattle.std.proofs.lemmas.List.Elements.{Contains-append_left, Contains-append_right}
+use Rattle.std.proofs.lemmas.Option.{none-some, same_Some}
+use Rattle.vt_facts.proofs.MemberLemmas.{Contains-head, Contains-behind}
+use Rattle.vt_facts.proofs.NumberLemmas.{equal_numbers}
+use Rattle.vt_base.specs.declared.numbers.PatternId.{PatternId}
+use Rattle.vt_query.specs.Calls.{Calls}
+use Rattle.vt_query.specs.Recursion.{Leads, directly}
+use Rattle.vt_query.specs.Checking.{IsCallOrder}
+use Rattle.vt_query.specs.declared.program.Program.{Program}
+use Rattle.vt_infer.specs.Inside.CallTable.{is_marked, row_at, rank, ranked_from, ranked_below}
+use Rattle.vt_infer.proofs.CallLemmas.{id, Marks, AreWide, IsClosedBelow}
+
+-- ---- ranks
+
+-- how many marks are in a row
+marks_in : List Bool → ℕ
+marks_in [] = 0
+marks_in (true ∷ row) = suc (marks_in row)
+marks_in (false ∷ row) = marks_in row
+
+rank-is : (row : List Bool) → rank row ≡ marks_in row
+unfolding marks_in
+rank-is row = sym (length-filter (λ b. b) row) ∙ kept row
+  where
+    kept : (row : List Bool) → length (filter (λ b. b) row) ≡ marks_in row
+    unfolding marks_in
+    kept [] = refl
+    kept (true ∷ row) = ap suc (kept row)
+    kept (false ∷ row) = kept row
+
+-- a row with some more marks has no fewer
+marks_le : (a b : List Bool) → ((i : ℕ) → is_marked a i ≡ true → is_marked b i ≡ true) → marks_in a ≤ marks_in b
+unfolding marks_in
+marks_le [] b more = omega arith
+marks_le (true ∷ a) [] more = absurd (false≢true (more 0 refl))
+marks_le (false ∷ a) [] more = marks_le a [] (λ i e. more (suc i) e)
+marks_le (true ∷ a) (true ∷ b) more = let rest = marks_le a b (λ i e. more (suc i) e) in omega (arith, rest)
+marks_le (true ∷ a) (false ∷ b) more = absurd (false≢true (more 0 refl))
+marks_le (false ∷ a) (true ∷ b) more = let rest = marks_le a b (λ i e. more (suc i) e) in omega (arith, rest)
+marks_le (false ∷ a) (false ∷ b) more = marks_le a b (λ i e. more (suc i) e)
+
+marks_less : (a b : List Bool) → ((i : ℕ) → is_marked a i ≡ true → is_marked b i ≡ true) → (j : ℕ) → is_marked a j ≡ false → is_marked b j ≡ true → marks_in a < marks_in b
+unfolding marks_in
+marks_less a [] more j off on = absurd (false≢true on)
+marks_less [] (true ∷ b) more j off on = omega arith
+marks_less [] (false ∷ b) more zero off on = absurd (false≢true on)
+marks_less [] (false ∷ b) more (suc j) off on = marks_less [] b (λ i e. absurd (false≢true e)) j refl on
+marks_less (true ∷ a) (b ∷ bs) more zero off on = absurd (false≢true (sym off))
+marks_less (false ∷ a) (true ∷ b) more zero off on = let rest = marks_le a b (λ i e. more (suc i) e) in omega (arith, rest)
+marks_less (false ∷ a) (false ∷ b) more zero off on = absurd (false≢true on)
+marks_less (true ∷ a) (true ∷ b) more (suc j) off on = let rest = marks_less a b (λ i e. more (suc i) e) j off on in omega (arith, rest)
+marks_less (true ∷ a) (false ∷ b) more (suc j) off on = absurd (false≢true (more 0 refl))
+marks_less (false ∷ a) (true ∷ b) more (suc j) off on = let rest = marks_less a b (λ i e. more (suc i) e) j off on in omega (arith, rest)
+marks_less (false ∷ a) (false ∷ b) more (suc j) off on = marks_less a b (λ i e. more (suc i) e) j off on
+
+-- a pattern calls fewer than one that calls it
+pub rank_falls : (n : ℕ) (rows : List (List Bool)) → IsClosedBelow n n rows → ((p : ℕ) → p < n → is_marked (row_at rows p) p ≡ false)
+    → (p q : ℕ) → p < n → q < n → Marks rows p q → rank (row_at rows q) < rank (row_at rows p)
+unfolding Marks
+rank_falls n rows c none p q from to calls =
+    let a = row_at rows q in
+    let b = row_at rows p in
+    let more : (i : ℕ) → is_marked a i ≡ true → is_marked b i ≡ true = λ i e. c.closed q p i to from (inside c q i to e) calls e in
+    let less : marks_in a < marks_in b = marks_less a b more q (none q to) calls in
+    omega (arith, less, rank-is a, rank-is b)
+  where
+    inside : IsClosedBelow n n rows → (q i : ℕ) → q < n → is_marked (row_at rows q) i ≡ true → i < n
+    inside c q i to e = subst (λ m. i < m) (c.wide.wide q to) (within (row_at rows q) i e)
+      where
+        within : (row : List Bool) (i : ℕ) → is_marked row i ≡ true → i < length row
+        within [] i e = absurd (false≢true e)
+        within (b ∷ row) zero e = omega arith
+        within (b ∷ row) (suc i) e = let below = within row i e in omega (arith, below)
+
+-- ---- the order
+
+-- a pattern of a rank is among those of that rank
+ranked_from-has : (r i : ℕ) (ranks : List ℕ) (j : ℕ) → slice_get ranks j ≡ Some r → Contains (ranked_from r i ranks) (id (i + j))
+ranked_from-has r i [] j at = absurd (none-some r at)
+ranked_from-has r i (s ∷ ranks) zero at = here (nat_eq s r) (eq-eqb s r (same_Some s r at))
+  where
+    here : (b : Bool) → b ≡ true → Contains (if b then id i ∷ ranked_from r (i + 1) ranks else ranked_from r (i + 1) ranks) (id (i + 0))
+    here true e = subst (λ n. Contains (id i ∷ ranked_from r (i + 1) ranks) (id n)) (omega arith) (Contains-head (id i) (ranked_from r (i + 1) ranks))
+    here false e = absurd (false≢true e)
+ranked_from-has r i (s ∷ ranks) (suc j) at =
+    later (nat_eq s r) (subst (λ n. Contains (ranked_from r (i + 1) ranks) (id n)) (omega arith) (ranked_from-has r (i + 1) ranks j at))
+  where
+    later : (b : Bool) → Contains (ranked_from r (i + 1) ranks) (id (i + suc j)) → Contains (if b then id i ∷ ranked_from r (i + 1) ranks else ranked_from r (i + 1) ranks) (id (i + suc j))
+    later true there = Contains-behind (id i) (id (i + suc j)) (ranked_from r (i + 1) ranks) there
+    later false there = there
+
+-- and what is among them has it
+pub record OfRank (r i : ℕ) (ranks : List ℕ) (p : PatternId) : Type 0 where
+  pub j : ℕ
+  pub is : p.0 ≡ i + j
+  pub at : slice_get ranks j ≡ Some r
+
+behind_first : (r i s : ℕ) (ranks : List ℕ) (p : PatternId) → OfRank r (i + 1) ranks p → OfRank r i (s ∷ ranks) p
+behind_first r i s ranks p o = record { j = suc o.j; is = omega (arith, o.is); at = o.at }
+
+of_rank : (r i s : ℕ) (ranks : List ℕ) (p : PatternId) → ((n : ℕ) → slice_get (ranked_from r (i + 1) ranks) n ≡ Some p → OfRank r (i + 1) ranks p)
+    → (b : Bool) → nat_eq s r ≡ b → (n : ℕ) → slice_get (if b then id i ∷ ranked_from r (i + 1) ranks else ranked_from r (i + 1) ranks) n ≡ Some p → OfRank r i (s ∷ ranks) p
+of_rank r i s ranks p rest true e zero at = record { j = 0; is = omega (arith, ap (λ q. q.0) (sym (same_Some (id i) p at))); at = ap Some (equal_numbers s r e) }
+of_rank r i s ranks p rest true e (suc n) at = behind_first r i s ranks p (rest n at)
+of_rank r i s ranks p rest false e n at = behind_first r i s ranks p (rest n at)
+
+ranked_from-so : (r i : ℕ) (ranks : List ℕ) (n : ℕ) (p : PatternId) → slice_get (ranked_from r i ranks) n ≡ Some p → OfRank r i ranks p
+ranked_from-so r i [] n p at = absurd (none-some p at)
+ranked_from-so r i (s ∷ ranks) n p at = of_rank r i s ranks p (λ m there. ranked_from-so r (i + 1) ranks m p there) (nat_eq s r) refl n at
+
+-- ---- how many there are
+
+-- how many ranks are below a number
+below_in : ℕ → List ℕ → ℕ
+below_in r [] = 0
+below_in r (s ∷ ranks) = (if nat_lt s r then 1 else 0) + below_in r ranks
+
+length-ranked_from : (r i : ℕ) (ranks : List ℕ) → below_in r ranks + length (ranked_from r i ranks) ≡ below_in (suc r) ranks
+unfolding below_in
+length-ranked_from r i [] = refl
+length-ranked_from r i (s ∷ ranks) =
+    let rest = length-ranked_from r (i + 1) ranks in
+    elim (cases_lt s r) [
+      | inl less ↦
+          let a : nat_lt s r ≡ true = ltb-from s r less in
+          let b : nat_lt s (suc r) ≡ true = ltb-from s (suc r) (omega arith) in
+          let c : nat_eq s r ≡ false = ne_eqb s r (omega arith) in
+          rw (a, b, c) (omega (arith, rest))
+      | inr from ↦ ?
+    ]
+
+-- all ranks are below a number above them
+below_all : (r : ℕ) (ranks : List ℕ) → ((s : ℕ) → Contains ranks s → s < r) → below_in r ranks ≡ length ranks
+below_all r ranks all = ?
+
+length-ranked_below : (r : ℕ) (ranks : List ℕ) → length (ranked_below r ranks) ≡ below_in r ranks
+length-ranked_below r ranks = ?
+
+-- ---- in the order
+
+ranked_below-has : (r : ℕ) (ranks : List ℕ) (s j : ℕ) → s < r → slice_get ranks j ≡ Some s → Contains (ranked_below r ranks) (id j)
+ranked_below-has zero ranks s j less at = absurd (omega arith)
+ranked_below-has (suc r) ranks s j less at =
+    elim (cases_lt s r) [
+      | inl lower ↦ Contains-append_left (ranked_below r ranks) (ranked_from r 0 ranks) (id j) (ranked_below-has r ranks s j lower at)
+      | inr from ↦
+          let same : s ≡ r = omega arith in
+          let there : Contains (ranked_from r 0 ranks) (id (0 + j)) = ranked_from-has r 0 ranks j (at ∙ ap Some same) in
+          Contains-append_right (ranked_below r ranks) (ranked_from r 0 ranks) (id j) (subst (λ n. Contains (ranked_from r 0 ranks) (id n)) (omega arith) there)
+    ]
