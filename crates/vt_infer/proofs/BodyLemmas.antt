@@ -35,7 +35,7 @@ use Rattle.vt_infer.proofs.FoundLemmas.{IsNew, Taken-with_kind, Grows, Grows-Add
 -- ---- which patterns the places of a constraint speak of
 
 -- the pattern of which an origin speaks
-asks : Origin → Option PatternId
+abbrev asks : Origin → Option PatternId
 asks (Fixed k) = None
 asks (Alike t) = None
 asks (Parameter p j) = Some p
@@ -46,24 +46,20 @@ abbrev Asks : Option PatternId → Term × Origin → Type 0
 Asks p place = (asks place.1 ≡ None) ⊎ (asks place.1 ≡ p)
 
 arguments_ask : (p : PatternId) (j : ℕ) (args : List Term) → All (Asks (Some p)) (argument_places p j args)
-unfolding asks
 arguments_ask p j [] = All-nil (Asks (Some p))
 arguments_ask p j (t ∷ args) = All-cons (Asks (Some p)) (t, Parameter p j) (argument_places p (j + 1) args) (inr refl) (arguments_ask p (j + 1) args)
 
 asked_ask : (p : PatternId) (j : ℕ) (args : List Arg) → All (Asks (Some p)) (asked_places p j args)
-unfolding asks
 asked_ask p j [] = All-nil (Asks (Some p))
 asked_ask p j (arg.Term t ∷ args) = All-cons (Asks (Some p)) (t, Parameter p j) (asked_places p (j + 1) args) (inr refl) (asked_ask p (j + 1) args)
 asked_ask p j (arg.Any ∷ args) = asked_ask p (j + 1) args
 asked_ask p j (arg.Column ∷ args) = asked_ask p (j + 1) args
 
 value_asks : (o : Option Kind) (t : Term) → All (Asks None) (value_place o t)
-unfolding asks
 value_asks None t = All-nil (Asks None)
 value_asks (Some k) t = All-cons (Asks None) (t, Fixed k) [] (inl refl) (All-nil (Asks None))
 
 places_ask : (meta : Metamodel) (c : Constraint) → All (Asks (called c)) (places meta c)
-unfolding asks
 places_ask meta (Is type t) = All-cons (Asks None) (t, Fixed (type_kind type)) [] (inl refl) (All-nil (Asks None))
 places_ask meta (Attr c a from to) = All-cons (Asks None) (from, Fixed kind.Obj) (value_place (attribute_kind meta a.0) to) (inl refl) (value_asks (attribute_kind meta a.0) to)
 places_ask meta (Ref c r from to) = All-cons (Asks None) (from, Fixed kind.Obj) ((to, Fixed kind.Obj) ∷ []) (inl refl) (All-cons (Asks None) (to, Fixed kind.Obj) [] (inl refl) (All-nil (Asks None)))
@@ -77,7 +73,6 @@ places_ask meta (Agg k t p args) = All-cons (Asks (Some p)) (t, Fixed kind.Int) 
 
 -- so a parameter at a place is one of the called pattern
 pub place_called : (meta : Metamodel) (c : Constraint) (t : Term) (p : PatternId) (j : ℕ) → Contains (places meta c) (t, Parameter p j) → called c ≡ Some p
-unfolding asks
 place_called meta c t p j there =
     elim (All-contains (Asks (called c)) (places meta c) (t, Parameter p j) (places_ask meta c) there) [
       | inl none ↦ absurd (none-some p (sym none))
@@ -96,7 +91,7 @@ pub record KnowsCalled (meta : Metamodel) (program : Program) (pattern : Pattern
 module _ (meta : Metamodel) (program : Program) (pattern : Pattern) (body : Body) (of : Contains pattern.bodies body)
     (known : List (List (List Kind))) (knows : KnowsCalled meta program pattern known) where
   -- each kind that is found for a variable is one that it gets
-  pub Sound : List (List Kind) → Type 0
+  abbrev pub Sound : List (List Kind) → Type 0
   Sound kinds = (x : ℕ) (k : Kind) → Taken kinds x k → Gets meta program pattern body x k
 
   -- an origin at a place of a constraint speaks of what is called there
@@ -109,7 +104,6 @@ module _ (meta : Metamodel) (program : Program) (pattern : Pattern) (body : Body
   -- what is found for an origin comes from it
   pub origin_so : (kinds : List (List Kind)) → Sound kinds → (origin : Origin) → IsPlaced origin → (k : Kind) → is_among k (origin_kinds known kinds origin) ≡ true
       → Has meta program pattern body origin k
-  unfolding Sound
   origin_so kinds sound (Fixed l) is k h = subst (λ m. Has meta program pattern body (Fixed l) m) (sym (among_one k l h)) (fixed pattern body l)
   origin_so kinds sound (Alike (Var x)) is k h = sound x k h
   origin_so kinds sound (Alike (Const v)) is k h = subst (λ m. Has meta program pattern body (Alike (Const v)) m) (sym (among_one k (kind_of v) h)) (literal pattern body v)
@@ -120,7 +114,6 @@ module _ (meta : Metamodel) (program : Program) (pattern : Pattern) (body : Body
   -- ---- one more kind, and more of them
 
   with_kind-sound : (f : Found) (x : ℕ) (k : Kind) → Sound f.kinds → (x < length f.kinds → Gets meta program pattern body x k) → Sound (with_kind f x k).kinds
-  unfolding Sound
   with_kind-sound f x k sound gets y l h =
       elim (Taken-with_kind f x k y l h) [
         | inl old ↦ sound y l old
@@ -185,13 +178,12 @@ module _ (meta : Metamodel) (program : Program) (pattern : Pattern) (body : Body
           with_kind-sound f i (type_kind type) sound (λ below. declared pattern body i p type (subst (λ n. i < n) count below) first is)
 
   nothing-sound : Sound (nothing body.vars).kinds
-  unfolding Sound
   nothing-sound x k h = absurd (nothing-none body.vars x k h)
 
   -- ---- what is got is found
 
   -- each variable has what its places give
-  pub Closed : List (List Kind) → Type 0
+  abbrev pub Closed : List (List Kind) → Type 0
   Closed kinds = (c : Constraint) (x : ℕ) (origin : Origin) (k : Kind) → Contains body.constraints c → Contains (places meta c) (Var x, origin) → x < body.vars
       → is_among k (origin_kinds known kinds origin) ≡ true → Taken kinds x k
 
@@ -239,7 +231,6 @@ module _ (meta : Metamodel) (program : Program) (known : List (List (List Kind))
       → (of : Contains pattern.bodies body) (knows : KnowsCalled meta program pattern known) → Closed meta program pattern body of known knows kinds
       → ((x : ℕ) (p : Param) (type : Ty) → x < body.vars → slice_get pattern.params x ≡ Some p → p.ty ≡ Some type → Taken kinds x (type_kind type))
       → IsPlaced meta program pattern body of known knows origin → is_among k (origin_kinds known kinds origin) ≡ true
-  unfolding Closed
   origin_all _ _ _ _ (fixed pattern body k) of knows closed types is = one_among k k refl
   origin_all _ _ _ _ (literal pattern body v) of knows closed types is = one_among (kind_of v) (kind_of v) refl
   origin_all _ _ _ _ (declared pattern body x param type below at ty) of knows closed types is = types x param type below at ty
@@ -292,7 +283,6 @@ pub record TellsKinds (meta : Metamodel) (program : Program) (pattern : Pattern)
 pub TellsKinds-all : (meta : Metamodel) (program : Program) (pattern : Pattern) (body : Body) (of : Contains pattern.bodies body)
     (known : List (List (List Kind))) (knows : KnowsCalled meta program pattern known) (kinds : List (List Kind))
     → IsAllOf meta known pattern body kinds → TellsKinds meta program pattern body known kinds
-unfolding Sound Closed
 TellsKinds-all meta program pattern body of known knows kinds a =
     let f : Found = record { kinds = kinds; count = a.count } in
     let start : Found = with_types (nothing body.vars) 0 pattern.params in

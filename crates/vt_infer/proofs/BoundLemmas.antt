@@ -123,7 +123,7 @@ all_of p [] each = refl
 all_of p (y ∷ xs) each = ap (λ b. b && list_all p xs) (each y (Contains-head y xs)) ∙ all_of p xs (λ x later. each x (Contains-behind y x xs later))
 
 module _ (body : Body) where
-  pub Sound : List Bool → Type 0
+  abbrev pub Sound : List Bool → Type 0
   Sound marks = (x : ℕ) → has_mark marks x ≡ true → IsBound body x
 
   with_marks-sound : (m : Marked) (xs : List ℕ) → length m.marks ≡ body.vars → Sound m.marks → ((x : ℕ) → Contains xs x → x < body.vars → IsBound body x) → Sound (with_marks m xs).marks
@@ -134,7 +134,6 @@ module _ (body : Body) where
       (λ y later. binds y (Contains-behind x y xs later))
     where
       one : (m : Marked) (x : ℕ) → length m.marks ≡ body.vars → Sound m.marks → (x < body.vars → IsBound body x) → Sound (with_mark m x).marks
-      unfolding Sound
       one m x count sound binds y h =
           elim (marked_in m x (slice_get m.marks x) refl y h) [
             | inl old ↦ sound y old
@@ -143,7 +142,6 @@ module _ (body : Body) where
 
   if_sound : (b : Bool) (m : Marked) (c : Constraint) (rule : Binds) → list_all (has_mark m.marks) rule.once ≡ b → Contains body.constraints c → Contains (bindings c) rule
       → length m.marks ≡ body.vars → Sound m.marks → Sound (if b then with_marks m rule.variables else m).marks
-  unfolding Sound
   if_sound true m c rule e there of count sound =
       with_marks-sound m rule.variables count sound
       (λ x inside below. bound x c rule below there of inside (λ y once. sound y (all_at (has_mark m.marks) rule.once y e once)))
@@ -234,7 +232,6 @@ pub record TellsBound (body : Body) (marks : List Bool) : Type 0 where
   pub all : (x : ℕ) → IsBound body x → has_mark marks x ≡ true
 
 pub TellsBound-all : (body : Body) (marks : List Bool) → AreAllMarks body marks → TellsBound body marks
-unfolding Sound
 TellsBound-all body marks a =
     let m : Marked = record { marks = marks; count = a.count } in
     let start : Marked = unmarked body.vars in

@@ -184,7 +184,7 @@ length_if false middle row = refl
 
 -- ---- one more place to go through
 
-pub Marks : List (List Bool) → ℕ → ℕ → Type 0
+abbrev pub Marks : List (List Bool) → ℕ → ℕ → Type 0
 Marks rows p q = is_marked (row_at rows p) q ≡ true
 
 -- each row has so many places
@@ -196,11 +196,9 @@ through_at : (k : ℕ) (rows : List (List Bool)) (p : ℕ) → row_at (rows_thro
 through_at k rows p = row_at-through (row_through k (row_at rows k)) rows p 0 refl
 
 pub through_so : (k : ℕ) (rows : List (List Bool)) (p q : ℕ) → Marks (rows_through k rows) p q → Marks rows p q ⊎ (Marks rows p k × Marks rows k q)
-unfolding Marks
 through_so k rows p q e = through_if (is_marked (row_at rows p) k) (row_at rows k) (row_at rows p) q (subst (λ row. is_marked row q ≡ true) (through_at k rows p) e)
 
 pub through_has : (k : ℕ) (rows : List (List Bool)) (p q : ℕ) → q < length (row_at rows p) → Marks rows p q ⊎ (Marks rows p k × Marks rows k q) → Marks (rows_through k rows) p q
-unfolding Marks
 through_has k rows p q below either = subst (λ row. is_marked row q ≡ true) (sym (through_at k rows p)) (if_through (is_marked (row_at rows p) k) (row_at rows k) (row_at rows p) q below either)
 
 AreWide-through : (n k : ℕ) (rows : List (List Bool)) → AreWide n rows → AreWide n (rows_through k rows)
@@ -271,7 +269,6 @@ closed_so program (suc k) rows so p q e =
 
 -- a row has a mark exactly at each pattern that is called
 call_rows-so : (program : Program) (p q : ℕ) → Marks (call_rows program.patterns) p q → Calls program (id p) (id q)
-unfolding Marks
 call_rows-so program p q e =
     let found = row_at-some (call_row (length program.patterns)) program.patterns p q e in
     elim (with_bodies-so (replicate (length program.patterns) false) found.0.bodies q found.2) [
@@ -280,7 +277,6 @@ call_rows-so program p q e =
     ]
 
 call_rows-has : (program : Program) (p q : ℕ) → Calls program (id p) (id q) → q < length program.patterns → Marks (call_rows program.patterns) p q
-unfolding Marks
 call_rows-has program p q calls below =
     let n = length program.patterns in
     subst (λ row. is_marked row q ≡ true) (sym (row_at-map (call_row n) program.patterns p calls.pattern calls.at))

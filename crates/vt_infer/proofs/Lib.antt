@@ -7,3 +7,4 @@ mod CallLemmas
 mod BoundLemmas
 mod FirstLemmas
 mod RankLemmas
+mod SpreadingLemmas
