@@ -100,12 +100,12 @@ are_many-have (m ∷ kinds) k l a b other =
 
 -- ---- rows
 
-row_at_place : (rows : List (List Kind)) (i : ℕ) (row : List Kind) → i < length rows → get_or rows i row ≡ row → kinds_at rows i ≡ row
+pub row_at_place : (rows : List (List Kind)) (i : ℕ) (row : List Kind) → i < length rows → get_or rows i row ≡ row → kinds_at rows i ≡ row
 row_at_place [] i row below is = absurd (omega arith)
 row_at_place (r ∷ rows) zero row below is = is
 row_at_place (r ∷ rows) (suc i) row below is = row_at_place rows i row (omega arith) is
 
-row_there : (rows : List (List Kind)) (i : ℕ) (k : Kind) → is_among k (kinds_at rows i) ≡ true → Contains rows (kinds_at rows i)
+pub row_there : (rows : List (List Kind)) (i : ℕ) (k : Kind) → is_among k (kinds_at rows i) ≡ true → Contains rows (kinds_at rows i)
 row_there [] i k e = absurd (false≢true e)
 row_there (r ∷ rows) zero k e = Contains-head r rows
 row_there (r ∷ rows) (suc i) k e = Contains-behind r (kinds_at rows i) rows (row_there rows i k e)

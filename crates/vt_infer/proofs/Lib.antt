@@ -8,3 +8,4 @@ mod BoundLemmas
 mod FirstLemmas
 mod RankLemmas
 mod SpreadingLemmas
+mod PatternLemmas
