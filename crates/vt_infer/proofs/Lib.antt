@@ -9,3 +9,4 @@ mod FirstLemmas
 mod RankLemmas
 mod SpreadingLemmas
 mod PatternLemmas
+mod TellLemmas
