@@ -10,3 +10,7 @@ mod RankLemmas
 mod SpreadingLemmas
 mod PatternLemmas
 mod TellLemmas
+mod LeanLemmas
+mod LeanKindLemmas
+mod LeanFaultLemmas
+mod OrderLemmas

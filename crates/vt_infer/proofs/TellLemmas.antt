@@ -33,13 +33,13 @@ item_other xs i j v d other = unwrap_or-slice_get (slice_set xs i v) j d ∙ get
 called_there : (meta : Metamodel) (program : Program) (q : PatternId) (j : ℕ) (k : Kind) (within : Pattern) (inner : Body) → Has meta program within inner (Parameter q j) k → q.0 < length program.patterns
 called_there meta program _ _ _ _ _ (parameter within inner q j called other k there inside of has) = slice_get_within program.patterns q.0 called there
 
-module _ (meta : Metamodel) (program : Program) (order : List PatternId) (ordered : IsCallOrder program order) where
-  -- the patterns before a place of the order are told
-  pub record IsTelling (i : ℕ) (known : List (List (List Kind))) (clashes : List Bool) : Type 0 where
-    pub count : length known ≡ length program.patterns
-    pub flags : length clashes ≡ length program.patterns
-    pub told : (p : PatternId) (pattern : Pattern) → Contains (take i order) p → slice_get program.patterns p.0 ≡ Some pattern → IsTold meta program known clashes p pattern
+-- the patterns before a place of the order are told
+pub record IsTelling (meta : Metamodel) (program : Program) (order : List PatternId) (i : ℕ) (known : List (List (List Kind))) (clashes : List Bool) : Type 0 where
+  pub count : length known ≡ length program.patterns
+  pub flags : length clashes ≡ length program.patterns
+  pub told : (p : PatternId) (pattern : Pattern) → Contains (take i order) p → slice_get program.patterns p.0 ≡ Some pattern → IsTold meta program known clashes p pattern
 
+module _ (meta : Metamodel) (program : Program) (order : List PatternId) (ordered : IsCallOrder program order) where
   -- nothing is known of a pattern that isn't there
   unknown : (known : List (List (List Kind))) (q j : ℕ) (k : Kind) → length known ≤ q → is_among k (parameter_kinds known q j) ≡ true → ⊥
   unknown known q j k past e =
@@ -47,7 +47,7 @@ module _ (meta : Metamodel) (program : Program) (order : List PatternId) (ordere
       false≢true none
 
   -- so what the next one calls is known
-  pub knows : (i : ℕ) (known : List (List (List Kind))) (clashes : List Bool) → IsTelling i known clashes → (p : PatternId) (pattern : Pattern) → slice_get order i ≡ Some p
+  pub knows : (i : ℕ) (known : List (List (List Kind))) (clashes : List Bool) → IsTelling meta program order i known clashes → (p : PatternId) (pattern : Pattern) → slice_get order i ≡ Some p
       → slice_get program.patterns p.0 ≡ Some pattern → KnowsCalled meta program pattern known
   knows i known clashes t p pattern at there = record {
     so = λ body within outer c q j k of asks calls among.
@@ -96,10 +96,10 @@ module _ (meta : Metamodel) (program : Program) (order : List PatternId) (ordere
       }
 
   -- one more is told
-  pub telling_step : (i : ℕ) (known : List (List (List Kind))) (clashes : List Bool) → IsTelling i known clashes → (p : PatternId) (pattern : Pattern) → slice_get order i ≡ Some p
+  pub telling_step : (i : ℕ) (known : List (List (List Kind))) (clashes : List Bool) → IsTelling meta program order i known clashes → (p : PatternId) (pattern : Pattern) → slice_get order i ≡ Some p
       → take (i + 1) order ≡ take i order ++ p ∷ []
       → (at : slice_get program.patterns p.0 ≡ Some pattern) (tables : List (List (List Kind))) → AreTables meta known pattern pattern.bodies tables
-      → IsTelling (i + 1) (slice_set known p.0 (merged (length pattern.params) tables)) (slice_set clashes p.0 (pattern_clashes meta known pattern tables))
+      → IsTelling meta program order (i + 1) (slice_set known p.0 (merged (length pattern.params) tables)) (slice_set clashes p.0 (pattern_clashes meta known pattern tables))
   telling_step i known clashes t p pattern here more at tables are =
       let rows = merged (length pattern.params) tables in
       let clash = pattern_clashes meta known pattern tables in
@@ -126,8 +126,8 @@ module _ (meta : Metamodel) (program : Program) (order : List PatternId) (ordere
       front q differs there = elim (Contains-push_cases (take i order) p q there) [ inl old ↦ old | inr is ↦ absurd (differs (ap (λ r. r.0) (sym is))) ]
 
   -- a number that no pattern has is passed over
-  pub telling_past : (i : ℕ) (known : List (List (List Kind))) (clashes : List Bool) → IsTelling i known clashes → (p : PatternId) → take (i + 1) order ≡ take i order ++ p ∷ []
-      → slice_get program.patterns p.0 ≡ None → IsTelling (i + 1) known clashes
+  pub telling_past : (i : ℕ) (known : List (List (List Kind))) (clashes : List Bool) → IsTelling meta program order i known clashes → (p : PatternId) → take (i + 1) order ≡ take i order ++ p ∷ []
+      → slice_get program.patterns p.0 ≡ None → IsTelling meta program order (i + 1) known clashes
   telling_past i known clashes t p more none = record {
     count = t.count;
     flags = t.flags;
@@ -139,7 +139,7 @@ module _ (meta : Metamodel) (program : Program) (order : List PatternId) (ordere
   }
 
   -- in the end all are told
-  pub telling_end : (i : ℕ) (known : List (List (List Kind))) (clashes : List Bool) → IsTelling i known clashes → take i order ≡ order → AreTold meta program known clashes
+  pub telling_end : (i : ℕ) (known : List (List (List Kind))) (clashes : List Bool) → IsTelling meta program order i known clashes → take i order ≡ order → AreTold meta program known clashes
   telling_end i known clashes t all = record {
     count = t.count;
     flags = t.flags;

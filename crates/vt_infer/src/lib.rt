@@ -24,10 +24,17 @@ mod lean;
 // The whole check.
 mod checking;
 mod fault;
+// What holds of every program.
+mod laws;
 
 // The whole check.
 pub use checking::check;
 pub use fault::InferFault;
+// What holds of every program.
+pub use laws::{
+    dropping_classes_adds_no_fault, dropping_classes_keeps_kinds, implied_classes_can_be_dropped,
+    no_path_leads_back,
+};
 
 #[cfg(test)]
 mod tests;
