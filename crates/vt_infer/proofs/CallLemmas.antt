@@ -305,7 +305,7 @@ Leads-there program _ _ (through p q r calls path) = Calls-there program p q cal
 abbrev pub paths : Program → List (List Bool)
 paths program = closed (call_rows program.patterns)
 
-closed-is : (program : Program) → paths program ≡ closed_below (length program.patterns) (call_rows program.patterns)
+pub closed-is : (program : Program) → paths program ≡ closed_below (length program.patterns) (call_rows program.patterns)
 closed-is program = ap (λ n. closed_below n (call_rows program.patterns)) (AreWide-calls program).count
 
 pub paths_so : (program : Program) (p q : ℕ) → Marks (paths program) p q → Leads program (id p) (id q)

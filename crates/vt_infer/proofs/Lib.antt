@@ -10,6 +10,7 @@ mod RankLemmas
 mod SpreadingLemmas
 mod PatternLemmas
 mod TellLemmas
+mod JoinLemmas
 mod LeanLemmas
 mod LeanKindLemmas
 mod LeanFaultLemmas

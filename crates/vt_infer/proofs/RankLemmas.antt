@@ -112,7 +112,7 @@ ranked_from-so r i (s ∷ ranks) n p at = of_rank r i s ranks p (λ m there. ran
 -- ---- how many there are
 
 -- how many ranks are below a number
-abbrev below_in : ℕ → List ℕ → ℕ
+abbrev pub below_in : ℕ → List ℕ → ℕ
 below_in r [] = 0
 below_in r (s ∷ ranks) = (if nat_lt s r then 1 else 0) + below_in r ranks
 
@@ -157,7 +157,7 @@ below_one : (m n : ℕ) (a : Bool) → a ≡ true → m ≡ n → (if a then 1 e
 below_one m n true e h = omega (arith, h)
 below_one m n false e h = cc
 
-below_all : (r : ℕ) (ranks : List ℕ) → ((s : ℕ) → Contains ranks s → s < r) → below_in r ranks ≡ length ranks
+pub below_all : (r : ℕ) (ranks : List ℕ) → ((s : ℕ) → Contains ranks s → s < r) → below_in r ranks ≡ length ranks
 below_all r [] all = refl
 below_all r (s ∷ ranks) all =
     below_one (below_in r ranks) (length ranks) (nat_lt s r) (lt-ltb s r (all s (Contains-head s ranks))) (below_all r ranks (λ t later. all t (Contains-behind s t ranks later)))
@@ -170,13 +170,13 @@ none_below (s ∷ ranks) = by (nat_lt s 0) (le-ltb s 0 (omega arith)) (none_belo
     by true e h = cc
     by false e h = omega (arith, h)
 
-length-ranked_below : (r : ℕ) (ranks : List ℕ) → length (ranked_below r ranks) ≡ below_in r ranks
+pub length-ranked_below : (r : ℕ) (ranks : List ℕ) → length (ranked_below r ranks) ≡ below_in r ranks
 length-ranked_below zero ranks = sym (none_below ranks)
 length-ranked_below (suc r) ranks = omega (arith, length-append (ranked_below r ranks) (ranked_from r 0 ranks), length-ranked_below r ranks, length-ranked_from r 0 ranks)
 
 -- ---- in the order
 
-ranked_below-has : (r : ℕ) (ranks : List ℕ) (s j : ℕ) → s < r → slice_get ranks j ≡ Some s → Contains (ranked_below r ranks) (id j)
+pub ranked_below-has : (r : ℕ) (ranks : List ℕ) (s j : ℕ) → s < r → slice_get ranks j ≡ Some s → Contains (ranked_below r ranks) (id j)
 ranked_below-has zero ranks s j less at = absurd (omega arith)
 ranked_below-has (suc r) ranks s j less at =
     elim (cases_lt s r) [
