@@ -29,7 +29,7 @@ use Rattle.vt_infer.specs.Inside.Found.{Found, same_kind, is_among, kinds_at, no
 use Rattle.vt_infer.specs.Inside.ExpressionFound.{expression_kinds}
 use Rattle.vt_infer.specs.Inside.Placing.{parameter_kinds, term_kinds, origin_kinds, target_of, given, all_given, all_placed, round, rounds, with_type, with_types, IsAllOf}
 use Rattle.vt_infer.specs.declared.places.Place.{Place}
-use Rattle.vt_infer.proofs.KindLemmas.{Taken, same_kind-is, same_kind-itself, among_one, one_among, can_have, is_found}
+use Rattle.vt_infer.proofs.KindLemmas.{moved, Taken, same_kind-is, same_kind-itself, among_one, one_among, can_have, is_found}
 use Rattle.vt_infer.proofs.FoundLemmas.{IsNew, Taken-with_kind, Grows, Grows-Adds, Taken-Adds, length-Adds, Adds-with_kinds, Adds-given, Adds-all_given, Adds-round, Adds-rounds, Adds-with_type, Adds-with_types, Adds-trans, with_kinds-closed, nothing-none, with_kind-has}
 
 -- ---- which patterns the places of a constraint speak of
@@ -167,8 +167,8 @@ module _ (meta : Metamodel) (program : Program) (pattern : Pattern) (body : Body
   with_types-sound [] i f at count sound = sound
   with_types-sound (p ∷ params) i f at count sound =
       let one = with_type f i p.ty in
-      let first : slice_get pattern.params i ≡ Some p = subst (λ n. slice_get pattern.params n ≡ Some p) (omega arith) (at 0 p refl) in
-      with_types-sound params (i + 1) one (λ x q e. subst (λ n. slice_get pattern.params n ≡ Some q) (omega arith) (at (suc x) q e))
+      let first : slice_get pattern.params i ≡ Some p = moved (λ n. slice_get pattern.params n ≡ Some p) (i + 0) i (omega arith) (at 0 p refl) in
+      with_types-sound params (i + 1) one (λ x q e. moved (λ n. slice_get pattern.params n ≡ Some q) (i + suc x) ((i + 1) + x) (omega arith) (at (suc x) q e))
       (length-Adds f one (Adds-with_type f i p.ty) ∙ count) (type_sound p.ty f i p first refl count sound)
     where
       type_sound : (type : Option Ty) (f : Found) (i : ℕ) (p : Param) → slice_get pattern.params i ≡ Some p → p.ty ≡ type
@@ -291,7 +291,7 @@ TellsKinds-all meta program pattern body of known knows kinds a =
     let count : length kinds ≡ body.vars = ap (λ g. length g.kinds) a.reached ∙ length-Adds start last (Adds-rounds meta known body.constraints a.n start) ∙ rows in
     let sound : Sound meta program pattern body of known knows kinds = subst (λ g. Sound meta program pattern body of known knows g.kinds) (sym a.reached)
             (rounds-sound meta program pattern body of known knows a.n start rows
-                (with_types-sound meta program pattern body of known knows pattern.params 0 (nothing body.vars) (λ x p at. subst (λ n. slice_get pattern.params n ≡ Some p) (omega arith) at)
+                (with_types-sound meta program pattern body of known knows pattern.params 0 (nothing body.vars) (λ x p at. moved (λ n. slice_get pattern.params n ≡ Some p) x (0 + x) (omega arith) at)
                     (length-replicate body.vars []) (nothing-sound meta program pattern body of known knows))) in
     let still : (round meta known f body.constraints).count ≤ f.count = omega (arith, ap (λ g. g.count) a.still) in
     let closed : Closed meta program pattern body of known knows kinds = λ c x origin k there place below among.
@@ -299,7 +299,7 @@ TellsKinds-all meta program pattern body of known knows kinds a =
     let types : (x : ℕ) (p : Param) (type : Ty) → x < body.vars → slice_get pattern.params x ≡ Some p → p.ty ≡ Some type → Taken kinds x (type_kind type) =
             λ x p type below at is. subst (λ g. Taken g.kinds x (type_kind type)) (sym a.reached)
                 (Taken-Adds start last (Adds-rounds meta known body.constraints a.n start) x (type_kind type)
-                    (subst (λ n. Taken start.kinds n (type_kind type)) (omega arith) (with_types-has pattern.params 0 (nothing body.vars) x p type (omega (arith, length-replicate body.vars [])) at is))) in
+                    (moved (λ n. Taken start.kinds n (type_kind type)) (0 + x) x (omega arith) (with_types-has pattern.params 0 (nothing body.vars) x p type (omega (arith, length-replicate body.vars [])) at is))) in
     record {
       count = count;
       so = sound;

@@ -157,7 +157,7 @@ either_row-at row other i below =
     is_marked-is (either_row row other) i ∙ get_or-map-range_with_len (λ j. is_marked row j || is_marked other j) 0 (length row) i i false below (omega arith)
 
 length-either_row : (row other : List Bool) → length (either_row row other) ≡ length row
-length-either_row row other = length-map (λ j. is_marked row j || is_marked other j) (range_with_len 0 (length row)) ∙ length-range_with_len 0 (length row)
+length-either_row row other = length-map (range_with_len 0 (length row)) (λ j. is_marked row j || is_marked other j) ∙ length-range_with_len 0 (length row)
 
 through_if : (b : Bool) (middle row : List Bool) (q : ℕ) → is_marked (if b then either_row row middle else row) q ≡ true
     → (is_marked row q ≡ true) ⊎ ((b ≡ true) × (is_marked middle q ≡ true))
@@ -172,10 +172,11 @@ through_if false middle row q e = inl e
 if_through : (b : Bool) (middle row : List Bool) (q : ℕ) → q < length row → (is_marked row q ≡ true) ⊎ ((b ≡ true) × (is_marked middle q ≡ true))
     → is_marked (if b then either_row row middle else row) q ≡ true
 if_through true middle row q below either =
-    either_row-at row middle q below ∙ (elim either [
+    let rest : (is_marked row q || is_marked middle q) ≡ true = elim either [
       | inl old ↦ or_left (is_marked row q) (is_marked middle q) old
       | inr new ↦ or_right (is_marked row q) (is_marked middle q) new.1
-    ])
+    ] in
+    either_row-at row middle q below ∙ rest
 if_through false middle row q below either = elim either [ inl old ↦ old | inr new ↦ absurd (false≢true new.0) ]
 
 length_if : (b : Bool) (middle row : List Bool) → length (if b then either_row row middle else row) ≡ length row
@@ -203,7 +204,7 @@ through_has k rows p q below either = subst (λ row. is_marked row q ≡ true) (
 
 AreWide-through : (n k : ℕ) (rows : List (List Bool)) → AreWide n rows → AreWide n (rows_through k rows)
 AreWide-through n k rows w = record {
-  count = length-map (row_through k (row_at rows k)) rows ∙ w.count;
+  count = length-map rows (row_through k (row_at rows k)) ∙ w.count;
   wide = λ p below. ap length (through_at k rows p) ∙ length_if (is_marked (row_at rows p) k) (row_at rows k) (row_at rows p) ∙ w.wide p below;
 }
 
@@ -289,7 +290,7 @@ wide_calls n (q ∷ patterns) (suc p) below = wide_calls n patterns p (omega ari
 
 pub AreWide-calls : (program : Program) → AreWide (length program.patterns) (call_rows program.patterns)
 AreWide-calls program = record {
-  count = length-map (call_row (length program.patterns)) program.patterns;
+  count = length-map program.patterns (call_row (length program.patterns));
   wide = λ p below. wide_calls (length program.patterns) program.patterns p below;
 }
 

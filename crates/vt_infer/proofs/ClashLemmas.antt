@@ -30,7 +30,7 @@ use Rattle.vt_infer.specs.Inside.ExpressionFound.{expression_kinds}
 use Rattle.vt_infer.specs.Inside.Placing.{parameter_kinds, term_kinds, origin_kinds, target_of, placed, all_placed}
 use Rattle.vt_infer.specs.Inside.Clashing.{has_other, are_many, is_misplaced, is_misplaced_at, is_bad_column, has_bad_column, is_known, is_object, is_kindless, clashes_itself, clashes_at, clashes_in}
 use Rattle.vt_infer.specs.declared.places.Place.{Place}
-use Rattle.vt_infer.proofs.KindLemmas.{Taken, some_in, any_in, same_kind-is, same_kind-itself, is_among-contains, contains-is_among}
+use Rattle.vt_infer.proofs.KindLemmas.{moved, Taken, some_in, any_in, same_kind-is, same_kind-itself, is_among-contains, contains-is_among}
 use Rattle.vt_infer.proofs.BodyLemmas.{TellsKinds}
 
 -- ---- lists of kinds
@@ -63,7 +63,7 @@ pub record Two (kinds : List Kind) : Type 0 where
   pub l : Kind
   pub first : is_among k kinds ≡ true
   pub second : is_among l kinds ≡ true
-  pub differ : k ≢ l
+  pub apart : k ≢ l
 
 pub are_many-so : (kinds : List Kind) → are_many kinds ≡ true → Two kinds
 are_many-so [] e = absurd (false≢true e)
@@ -73,7 +73,7 @@ are_many-so (k ∷ kinds) e =
       k = k; l = o.other;
       first = or_left (same_kind k k) (is_among k kinds) (same_kind-itself k);
       second = or_right (same_kind o.other k) (is_among o.other kinds) o.there;
-      differ = o.differs;
+      apart = o.differs;
     }
 
 pub are_many-have : (kinds : List Kind) (k l : Kind) → is_among k kinds ≡ true → is_among l kinds ≡ true → k ≢ l → are_many kinds ≡ true
@@ -188,8 +188,8 @@ module _ (meta : Metamodel) (program : Program) (pattern : Pattern) (body : Body
   bad_column_so k t p args there [] j at e = absurd (false≢true e)
   bad_column_so k t p args there (a ∷ rest) j at e =
       elim (or_cases (is_bad_column known p.0 j a) (has_bad_column known p.0 (j + 1) rest) e) [
-        | inl here ↦ one a here (subst (λ n. slice_get args n ≡ Some a) (omega arith) (at 0 a refl))
-        | inr later ↦ bad_column_so k t p args there rest (j + 1) (λ i b is. subst (λ n. slice_get args n ≡ Some b) (omega arith) (at (suc i) b is)) later
+        | inl here ↦ one a here (moved (λ n. slice_get args n ≡ Some a) (j + 0) j (omega arith) (at 0 a refl))
+        | inr later ↦ bad_column_so k t p args there rest (j + 1) (λ i b is. moved (λ n. slice_get args n ≡ Some b) (j + suc i) ((j + 1) + i) (omega arith) (at (suc i) b is)) later
       ]
     where
       one : (a : Arg) → is_bad_column known p.0 j a ≡ true → slice_get args j ≡ Some a → ClashesIn meta program pattern body
@@ -204,11 +204,11 @@ module _ (meta : Metamodel) (program : Program) (pattern : Pattern) (body : Body
   bad_column_has p [] j i l is there other = absurd (none-some arg.Column is)
   bad_column_has p (a ∷ rest) j zero l is there other =
       let same : a ≡ arg.Column = same_Some a arg.Column is in
-      let here : is_bad_column known p.0 j arg.Column ≡ true = has_other-has kind.Int l (parameter_kinds known p.0 j) (subst (λ n. is_among l (parameter_kinds known p.0 n) ≡ true) (omega arith) there) (λ e. other (sym e)) in
+      let here : is_bad_column known p.0 j arg.Column ≡ true = has_other-has kind.Int l (parameter_kinds known p.0 j) (moved (λ n. is_among l (parameter_kinds known p.0 n) ≡ true) (j + 0) j (omega arith) there) (λ e. other (sym e)) in
       or_left (is_bad_column known p.0 j a) (has_bad_column known p.0 (j + 1) rest) (subst (λ b. is_bad_column known p.0 j b ≡ true) (sym same) here)
   bad_column_has p (a ∷ rest) j (suc i) l is there other =
       or_right (is_bad_column known p.0 j a) (has_bad_column known p.0 (j + 1) rest)
-      (bad_column_has p rest (j + 1) i l is (subst (λ n. is_among l (parameter_kinds known p.0 n) ≡ true) (omega arith) there) other)
+      (bad_column_has p rest (j + 1) i l is (moved (λ n. is_among l (parameter_kinds known p.0 n) ≡ true) (j + suc i) ((j + 1) + i) (omega arith) there) other)
 
   -- ---- one constraint
 
@@ -229,7 +229,7 @@ module _ (meta : Metamodel) (program : Program) (pattern : Pattern) (body : Body
         | inr other ↦ let o = has_other-so kind.Bool (expression_kinds kinds slots f) other in check f slots o.other there (result_so f slots o.other o.there) (λ same. o.differs (sym same))
       ]
   itself_so (Eval t f slots) there e = kindless_so (Eval t f slots) f slots there (refl, refl) e
-  itself_so (Agg k t p args) there e = bad_column_so k t p args there args 0 (λ i a is. subst (λ n. slice_get args n ≡ Some a) (omega arith) is) e
+  itself_so (Agg k t p args) there e = bad_column_so k t p args there args 0 (λ i a is. moved (λ n. slice_get args n ≡ Some a) i (0 + i) (omega arith) is) e
   itself_so (Is type t) there e = absurd (false≢true e)
   itself_so (Attr c a from to) there e = absurd (false≢true e)
   itself_so (Ref c r from to) there e = absurd (false≢true e)
@@ -266,7 +266,7 @@ module _ (meta : Metamodel) (program : Program) (pattern : Pattern) (body : Body
             let at : kinds_at kinds found.1.0 ≡ found.0 = row_at_place kinds found.1.0 found.0 found.1.1 found.1.2 in
             two_kinds found.1.0 two.k two.l
             (tells.so found.1.0 two.k (subst (λ r. is_among two.k r ≡ true) (sym at) two.first))
-            (tells.so found.1.0 two.l (subst (λ r. is_among two.l r ≡ true) (sym at) two.second)) two.differ
+            (tells.so found.1.0 two.l (subst (λ r. is_among two.l r ≡ true) (sym at) two.second)) two.apart
         | inr one ↦ let found = some_in (clashes_at meta known kinds) body.constraints one in at_so found.0 found.1 found.2
       ]
 
@@ -307,7 +307,7 @@ module _ (meta : Metamodel) (program : Program) (pattern : Pattern) (body : Body
       (any_in (λ m. has_other m (term_kinds kinds t)) (term_kinds kinds s) k (contains-is_among k (term_kinds kinds s) (term_all s k first)) (has_other-has k l (term_kinds kinds t) (term_all t l second) other))
   clashes_has (column aggregate t p args j k there is has other) =
       constraint_clashes (Agg aggregate t p args) there
-      (bad_column_has p args 0 j k is (subst (λ n. is_among k (parameter_kinds known p.0 n) ≡ true) (omega arith) (columns_all aggregate t p args j k there has)) other)
+      (bad_column_has p args 0 j k is (moved (λ n. is_among k (parameter_kinds known p.0 n) ≡ true) j (0 + j) (omega arith) (columns_all aggregate t p args j k there has)) other)
   clashes_has (expression c e slots there has each kindless) = constraint_clashes c there (expression_clashes c e slots has (kindless_has e slots each kindless))
   clashes_has (check e slots k there has other) =
       constraint_clashes (Check e slots) there

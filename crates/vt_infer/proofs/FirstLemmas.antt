@@ -4,6 +4,7 @@ use Rattle.std.specs.Prelude.{slice_get, unwrap_or, if◌then◌else◌}
 use Rattle.std.proofs.lemmas.Bool.{false≢true, cases_lt}
 use Rattle.vt_base.specs.declared.numbers.PatternId.{PatternId}
 use Rattle.vt_infer.specs.Inside.CallTable.{is_marked, row_at}
+use Rattle.vt_infer.proofs.KindLemmas.{moved}
 use Rattle.vt_infer.specs.Inside.First.{first_own_from, first_own, first_mark_from, first_mark}
 
 -- the first place of a test, from a number on
@@ -56,19 +57,19 @@ mark_finds : (test : ℕ → Bool) (marks : List Bool) (i : ℕ) → ((j : ℕ) 
     → Finds test i (length marks) (first_mark_from i marks)
 mark_finds test [] i at = λ j from below. absurd (omega arith)
 mark_finds test (b ∷ marks) i at =
-    finds_if b test i (length marks) (first_mark_from (i + 1) marks) (subst (λ n. test n ≡ b) (omega arith) (at 0 (omega arith)))
-    (λ none. mark_finds test marks (i + 1) (λ j below. subst (λ n. test n ≡ unwrap_or (slice_get marks j) false) (omega arith) (at (suc j) (omega arith))))
+    finds_if b test i (length marks) (first_mark_from (i + 1) marks) (moved (λ n. test n ≡ b) (i + 0) i (omega arith) (at 0 (omega arith)))
+    (λ none. mark_finds test marks (i + 1) (λ j below. moved (λ n. test n ≡ unwrap_or (slice_get marks j) false) (i + suc j) ((i + 1) + j) (omega arith) (at (suc j) (omega arith))))
 
 pub first_mark-finds : (marks : List Bool) → Finds (λ j. unwrap_or (slice_get marks j) false) 0 (length marks) (first_mark marks)
-first_mark-finds marks = mark_finds (λ j. unwrap_or (slice_get marks j) false) marks 0 (λ j below. ap (λ n. unwrap_or (slice_get marks n) false) (omega arith))
+first_mark-finds marks = mark_finds (λ j. unwrap_or (slice_get marks j) false) marks 0 (λ j below. moved (λ n. unwrap_or (slice_get marks n) false ≡ unwrap_or (slice_get marks j) false) j (0 + j) (omega arith) refl)
 
 -- the first row with a mark at its own place
 own_finds : (test : ℕ → Bool) (rows : List (List Bool)) (i : ℕ) → ((j : ℕ) → j < length rows → test (i + j) ≡ is_marked (row_at rows j) (i + j))
     → Finds test i (length rows) (first_own_from i rows)
 own_finds test [] i at = λ j from below. absurd (omega arith)
 own_finds test (row ∷ rows) i at =
-    finds_if (is_marked row i) test i (length rows) (first_own_from (i + 1) rows) (subst (λ n. test n ≡ is_marked row n) (omega arith) (at 0 (omega arith)))
-    (λ none. own_finds test rows (i + 1) (λ j below. subst (λ n. test n ≡ is_marked (row_at rows j) n) (omega arith) (at (suc j) (omega arith))))
+    finds_if (is_marked row i) test i (length rows) (first_own_from (i + 1) rows) (moved (λ n. test n ≡ is_marked row n) (i + 0) i (omega arith) (at 0 (omega arith)))
+    (λ none. own_finds test rows (i + 1) (λ j below. moved (λ n. test n ≡ is_marked (row_at rows j) n) (i + suc j) ((i + 1) + j) (omega arith) (at (suc j) (omega arith))))
 
 pub first_own-finds : (rows : List (List Bool)) → Finds (λ j. is_marked (row_at rows j) j) 0 (length rows) (first_own rows)
-first_own-finds rows = own_finds (λ j. is_marked (row_at rows j) j) rows 0 (λ j below. ap (λ n. is_marked (row_at rows n) n) (omega arith) ∙ ap (λ n. is_marked (row_at rows j) n) (omega arith))
+first_own-finds rows = own_finds (λ j. is_marked (row_at rows j) j) rows 0 (λ j below. moved (λ n. is_marked (row_at rows n) n ≡ is_marked (row_at rows j) n) j (0 + j) (omega arith) refl)

@@ -81,10 +81,10 @@ IsCallOrder-paths program rows h =
             let width : length found.0 ≡ n = ap length (sym row) ∙ wide.wide found.1.0 (omega (arith, wide.count, found.1.1)) in
             omega (arith, found.2, width, wide.count, count_by-le-length (λ b. b) found.0) in
     record {
-      count = length-ranked_below (length rows + 1) ranks ∙ below_all (length rows + 1) ranks few ∙ length-map rank rows ∙ wide.count;
+      count = length-ranked_below (length rows + 1) ranks ∙ below_all (length rows + 1) ranks few ∙ length-map rows rank ∙ wide.count;
       each = λ p below.
           ranked_below-has (length rows + 1) ranks (rank (row_at rows p.0)) p.0
-          (few (rank (row_at rows p.0)) (p.0, omega (arith, length-map rank rows, wide.count, below), get_or_from_slice_get ranks p.0 (rank (row_at rows p.0)) (rank (row_at rows p.0)) (rank_at p.0 below)))
+          (few (rank (row_at rows p.0)) (p.0, omega (arith, length-map rows rank, wide.count, below), get_or_from_slice_get ranks p.0 (rank (row_at rows p.0)) (rank (row_at rows p.0)) (rank_at p.0 below)))
           (rank_at p.0 below);
       after = λ i p q at calls below.
           let from : p.0 < n = Calls-there program p q calls in

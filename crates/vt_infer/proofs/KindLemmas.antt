@@ -17,6 +17,10 @@ use Rattle.vt_query.specs.Kinds.{slot_gets}
 use Rattle.vt_infer.specs.Inside.Found.{same_kind, is_among, kinds_at}
 use Rattle.vt_infer.specs.Inside.ExpressionFound.{only_if, are_taken, applied_kinds, slot_kinds, expression_kinds, operand_kinds, boxed_kinds}
 
+-- what holds at a number holds at an equal one
+pub moved : (P : ℕ → Type 0) (a b : ℕ) → a ≡ b → P a → P b
+moved P a b e h = subst P e h
+
 -- ---- some item
 
 pub some_in : {X : Type 0} (p : X → Flag) (xs : List X) → list_any p xs ≡ true → (x : X) × Contains xs x × (p x ≡ true)

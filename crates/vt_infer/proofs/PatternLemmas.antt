@@ -240,7 +240,7 @@ module _ (meta : Metamodel) (program : Program) (p : PatternId) (pattern : Patte
             let row : kinds_at rows j ≡ found.0 = row_at_place rows j found.0 found.1.1 found.1.2 in
             let a = from_row j two.k (subst (λ r. is_among two.k r ≡ true) (sym row) two.first) in
             let b = from_row j two.l (subst (λ r. is_among two.l r ≡ true) (sym row) two.second) in
-            in_two_bodies a.body b.body j two.k two.l a.of b.of a.below a.gets b.gets two.differ
+            in_two_bodies a.body b.body j two.k two.l a.of b.of a.below a.gets b.gets two.apart
       ]
 
   pub pattern_clashes_has : Clashes meta program pattern → pattern_clashes meta known pattern tables ≡ true

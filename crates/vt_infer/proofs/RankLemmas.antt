@@ -14,6 +14,7 @@ use Rattle.vt_query.specs.Recursion.{Leads, directly}
 use Rattle.vt_query.specs.Checking.{IsCallOrder}
 use Rattle.vt_query.specs.declared.program.Program.{Program}
 use Rattle.vt_infer.specs.Inside.CallTable.{is_marked, row_at, rank, ranked_from, ranked_below}
+use Rattle.vt_infer.proofs.KindLemmas.{moved}
 use Rattle.vt_infer.proofs.CallLemmas.{id, Marks, AreWide, IsClosedBelow}
 
 -- ---- ranks
@@ -81,10 +82,10 @@ ranked_from-has r i [] j at = absurd (none-some r at)
 ranked_from-has r i (s ∷ ranks) zero at = here (nat_eq s r) (eq-eqb s r (same_Some s r at))
   where
     here : (b : Bool) → b ≡ true → Contains (if b then id i ∷ ranked_from r (i + 1) ranks else ranked_from r (i + 1) ranks) (id (i + 0))
-    here true e = subst (λ n. Contains (id i ∷ ranked_from r (i + 1) ranks) (id n)) (omega arith) (Contains-head (id i) (ranked_from r (i + 1) ranks))
+    here true e = moved (λ n. Contains (id i ∷ ranked_from r (i + 1) ranks) (id n)) i (i + 0) (omega arith) (Contains-head (id i) (ranked_from r (i + 1) ranks))
     here false e = absurd (false≢true e)
 ranked_from-has r i (s ∷ ranks) (suc j) at =
-    later (nat_eq s r) (subst (λ n. Contains (ranked_from r (i + 1) ranks) (id n)) (omega arith) (ranked_from-has r (i + 1) ranks j at))
+    later (nat_eq s r) (moved (λ n. Contains (ranked_from r (i + 1) ranks) (id n)) ((i + 1) + j) (i + suc j) (omega arith) (ranked_from-has r (i + 1) ranks j at))
   where
     later : (b : Bool) → Contains (ranked_from r (i + 1) ranks) (id (i + suc j)) → Contains (if b then id i ∷ ranked_from r (i + 1) ranks else ranked_from r (i + 1) ranks) (id (i + suc j))
     later true there = Contains-behind (id i) (id (i + suc j)) (ranked_from r (i + 1) ranks) there
@@ -184,7 +185,7 @@ ranked_below-has (suc r) ranks s j less at =
       | inr from ↦
           let same : s ≡ r = omega arith in
           let there : Contains (ranked_from r 0 ranks) (id (0 + j)) = ranked_from-has r 0 ranks j (at ∙ ap Some same) in
-          Contains-append_right (ranked_below r ranks) (ranked_from r 0 ranks) (id j) (subst (λ n. Contains (ranked_from r 0 ranks) (id n)) (omega arith) there)
+          Contains-append_right (ranked_below r ranks) (ranked_from r 0 ranks) (id j) (moved (λ n. Contains (ranked_from r 0 ranks) (id n)) (0 + j) j (omega arith) there)
     ]
 
 -- what stands at a place of the order has all of lower rank before it
@@ -194,8 +195,8 @@ slice_get-front (x ∷ xs) ys zero below = refl
 slice_get-front (x ∷ xs) ys (suc i) below = slice_get-front xs ys i (omega arith)
 
 slice_get-back : (xs ys : List PatternId) (i : ℕ) → slice_get (xs ++ ys) (length xs + i) ≡ slice_get ys i
-slice_get-back [] ys i = ap (slice_get ys) (omega arith)
-slice_get-back (x ∷ xs) ys i = slice_get-shift x (xs ++ ys) (length xs + i) ((suc (length xs)) + i) (omega arith) ∙ slice_get-back xs ys i
+slice_get-back [] ys i = moved (λ n. slice_get ys n ≡ slice_get ys i) i (0 + i) (omega arith) refl
+slice_get-back (x ∷ xs) ys i = slice_get-shift x (xs ++ ys) (length xs + i) (length (x ∷ xs) + i) (omega arith) ∙ slice_get-back xs ys i
   where
     slice_get-shift : (x : PatternId) (zs : List PatternId) (n m : ℕ) → m ≡ suc n → slice_get (x ∷ zs) m ≡ slice_get zs n
     slice_get-shift x zs n m e = ap (slice_get (x ∷ zs)) e
@@ -204,7 +205,7 @@ take-back : (xs ys : List PatternId) (i : ℕ) (q : PatternId) → Contains xs q
 take-back xs ys i q there = subst (λ zs. Contains zs q) (sym (take-append-over xs ys i)) (Contains-append_left xs (take i ys) q there)
   where
     take-append-over : (xs ys : List PatternId) (i : ℕ) → take (length xs + i) (xs ++ ys) ≡ xs ++ take i ys
-    take-append-over [] ys i = ap (λ n. take n ys) (omega arith)
+    take-append-over [] ys i = moved (λ n. take n ys ≡ take i ys) i (0 + i) (omega arith) refl
     take-append-over (x ∷ xs) ys i =
         let e : length (x ∷ xs) + i ≡ suc (length xs + i) = omega arith in
         ap (λ n. take n (x ∷ (xs ++ ys))) e ∙ ap (λ zs. x ∷ zs) (take-append-over xs ys i)
