@@ -137,10 +137,14 @@ module _ (program : Program) (marks : List Bool) (P : Pattern → Type 0) (each 
 pub TellsEach-clashes : (meta : Metamodel) (program : Program) (known : List (List (List Kind))) (clashes : List Bool) → AreTold meta program known clashes → TellsEach program clashes (Clashes meta program)
 TellsEach-clashes meta program known clashes t = record { count = t.flags; tells = λ p pattern at. (t.each p pattern at).clash }
 
+told_so : (pattern : Pattern) (told : Bool) → IsToldUnbound pattern told → (told ≡ true) ↔ IsUnbound pattern
+told_so pattern true t = (t.some, λ u. refl)
+told_so pattern false t = (t.some, λ u. absurd (u.free (t.none refl u.body u.variable u.of u.there)))
+
 zip_tells : (patterns : List Pattern) (marks : List Bool) → AreToldUnbound patterns marks → (i : ℕ) (pattern : Pattern) → slice_get patterns i ≡ Some pattern → (unwrap_or (slice_get marks i) false ≡ true) ↔ IsUnbound pattern
 zip_tells [] marks all i pattern at = absurd (none-some pattern at)
 zip_tells (p ∷ patterns) [] all i pattern at = absurd all
-zip_tells (p ∷ patterns) (m ∷ marks) all zero pattern at = subst (λ q. (m ≡ true) ↔ IsUnbound q) (same_Some p pattern at) all.0
+zip_tells (p ∷ patterns) (m ∷ marks) all zero pattern at = subst (λ q. (m ≡ true) ↔ IsUnbound q) (same_Some p pattern at) (told_so p m all.0)
 zip_tells (p ∷ patterns) (m ∷ marks) all (suc i) pattern at = zip_tells patterns marks all.1 i pattern at
 
 zip_length : (patterns : List Pattern) (marks : List Bool) → AreToldUnbound patterns marks → length marks ≡ length patterns

@@ -11,6 +11,7 @@ mod SpreadingLemmas
 mod PatternLemmas
 mod TellLemmas
 mod JoinLemmas
+mod AnyUnboundLemmas
 mod LeanLemmas
 mod LeanKindLemmas
 mod LeanFaultLemmas

@@ -10,7 +10,8 @@ use Rattle.vt_base.specs.declared.numbers.PatternId.{PatternId}
 use Rattle.vt_base.specs.declared.aggregate.AggKind.{AggKind}
 use Rattle.vt_base.specs.declared.value.Kind.{Kind}
 use Rattle.vt_model.specs.Metamodel.{Metamodel}
-use Rattle.vt_query.specs.Kinds.{Alike, Parameter, Has, parameter, Gets}
+use Rattle.vt_text.specs.declared.expr.Expr.{Expr}
+use Rattle.vt_query.specs.Kinds.{Alike, Parameter, Result, Has, parameter, Gets}
 use Rattle.vt_query.specs.Faults.{ClashesIn, Clashes, in_a_body, in_two_bodies}
 use Rattle.vt_query.specs.declared.program.Term.{Term}
 use Rattle.vt_query.specs.declared.program.Term.TheVariants.{Var}
@@ -20,6 +21,7 @@ use Rattle.vt_query.specs.declared.program.Body.{Body}
 use Rattle.vt_query.specs.declared.program.Pattern.{Pattern}
 use Rattle.vt_query.specs.declared.program.Program.{Program}
 use Rattle.vt_infer.specs.Inside.Found.{Found, same_kind, is_among, kinds_at, nothing, with_kind, with_kinds}
+use Rattle.vt_infer.specs.Inside.ExpressionFound.{expression_kinds}
 use Rattle.vt_infer.specs.Inside.Placing.{parameter_kinds, IsAllOf}
 use Rattle.vt_infer.specs.Inside.Clashing.{are_many, clashes_in}
 use Rattle.vt_infer.specs.Inside.Patterns.{AreTables, with_table, with_tables, merged, any_body_clashes, pattern_clashes}
@@ -267,3 +269,18 @@ module _ (meta : Metamodel) (program : Program) (p : PatternId) (pattern : Patte
 
   pub rows_all : (within : Pattern) (inner : Body) (j : ℕ) (k : Kind) → Has meta program within inner (Parameter p j) k → Taken (merged (length pattern.params) tables) j k
   rows_all within inner j k has = rows_from j k (from_has p j k within inner has refl)
+
+  -- an expression in one of the bodies has a kind or none
+  one_or_none : (body : Body) (e : Expr) (slots : List ℕ) (kinds : List Kind) → ((k : Kind) → is_among k kinds ≡ true → Has meta program pattern body (Result e slots) k)
+      → ((k : Kind) → Has meta program pattern body (Result e slots) k → is_among k kinds ≡ true)
+      → ((k : Kind) × Has meta program pattern body (Result e slots) k) ⊎ ((k : Kind) → Has meta program pattern body (Result e slots) k → ⊥)
+  one_or_none body e slots [] so all = inr (λ k has. false≢true (all k has))
+  one_or_none body e slots (k ∷ kinds) so all = inl (k, so k (or_left (same_kind k k) (is_among k kinds) (same_kind-itself k)))
+
+  pub decided_result : (body : Body) (e : Expr) (slots : List ℕ) → Contains pattern.bodies body
+      → ((k : Kind) × Has meta program pattern body (Result e slots) k) ⊎ ((k : Kind) → Has meta program pattern body (Result e slots) k → ⊥)
+  decided_result body e slots of =
+      let table = zip_left (IsAllOf meta known pattern) pattern.bodies tables body are of in
+      let t = tells body table.0 of table.2 in
+      one_or_none body e slots (expression_kinds table.0 slots e)
+      (λ k h. t.free_so (Result e slots) k (λ p j e. cc) h) (λ k h. t.free_all (Result e slots) k (λ p j e. cc) h)

@@ -20,7 +20,7 @@ use Rattle.vt_infer.specs.Inside.Found.{is_among, kinds_at}
 use Rattle.vt_infer.specs.Inside.Placing.{parameter_kinds}
 use Rattle.vt_infer.specs.Inside.Patterns.{AreTables, merged, pattern_clashes, IsTold, AreTold}
 use Rattle.vt_infer.proofs.BodyLemmas.{KnowsCalled}
-use Rattle.vt_infer.proofs.PatternLemmas.{rows_so, rows_all, length-merged, pattern_clashes_so, pattern_clashes_has}
+use Rattle.vt_infer.proofs.PatternLemmas.{rows_so, rows_all, length-merged, pattern_clashes_so, pattern_clashes_has, decided_result}
 
 -- an item of a list after another one was written
 item_same : {X : Type 0} (xs : List X) (i : ℕ) (v d : X) → i < length xs → unwrap_or (slice_get (slice_set xs i v) i) d ≡ v
@@ -75,6 +75,7 @@ module _ (meta : Metamodel) (program : Program) (order : List PatternId) (ordere
         count = ap length row ∙ t.count;
         kinds = λ within body j k. subst (λ r. (is_among k (kinds_at r j) ≡ true) ↔ Has meta program within body (Parameter p j) k) (sym row) (t.kinds within body j k);
         clash = subst (λ b. (b ≡ true) ↔ Clashes meta program pattern) (sym flag) t.clash;
+        decided = t.decided;
       }
 
   new_told : (known : List (List (List Kind))) (clashes : List Bool) (p : PatternId) (pattern : Pattern) (at : slice_get program.patterns p.0 ≡ Some pattern)
@@ -93,6 +94,7 @@ module _ (meta : Metamodel) (program : Program) (order : List PatternId) (ordere
             (rows_so meta program p pattern at known called tables are within body j k, rows_all meta program p pattern at known called tables are within body j k);
         clash = subst (λ b. (b ≡ true) ↔ Clashes meta program pattern) (sym flag)
             (pattern_clashes_so meta program p pattern at known called tables are, pattern_clashes_has meta program p pattern at known called tables are);
+        decided = decided_result meta program p pattern at known called tables are;
       }
 
   -- one more is told

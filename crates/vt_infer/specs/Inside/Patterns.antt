@@ -1,10 +1,11 @@
 -- The kinds of the parameters of patterns, and which patterns have kinds that clash.
-use Rattle.std.specs.Prelude.{◌≡◌, ◌↔◌, ℕ, ◌+◌, ◌<◌, ◌||◌, Bool, true, false, List, [], ◌∷◌, length, map, slice_get, unwrap_or, Some}
+use Rattle.std.specs.Prelude.{◌≡◌, ◌↔◌, ◌⊎◌, ℕ, ◌+◌, ◌<◌, ◌||◌, Contains, Bool, true, false, List, [], ◌∷◌, length, map, slice_get, unwrap_or, Some}
 use Rattle.std.specs.List.{AllZip, list_any, filter_map}
 use Rattle.vt_base.specs.declared.numbers.PatternId.{PatternId}
 use Rattle.vt_base.specs.declared.value.Kind.{Kind}
 use Rattle.vt_model.specs.Metamodel.{Metamodel}
-use Rattle.vt_query.specs.Kinds.{Has, Parameter}
+use Rattle.vt_text.specs.declared.expr.Expr.{Expr}
+use Rattle.vt_query.specs.Kinds.{Has, Parameter, Result}
 use Rattle.vt_query.specs.Faults.{Clashes}
 use Rattle.vt_query.specs.declared.program.Body.{Body}
 use Rattle.vt_query.specs.declared.program.Pattern.{Pattern}
@@ -48,6 +49,9 @@ pub record IsTold (meta : Metamodel) (program : Program) (known : List (List (Li
   pub kinds : (within : Pattern) (body : Body) (j : ℕ) (k : Kind)
       → (is_among k (parameter_kinds known p.0 j) ≡ true) ↔ Has meta program within body (Parameter p j) k
   pub clash : (unwrap_or (slice_get clashes p.0) false ≡ true) ↔ Clashes meta program pattern
+  -- an expression in one of its bodies has a kind or none
+  pub decided : (body : Body) (e : Expr) (slots : List ℕ) → Contains pattern.bodies body
+      → ((k : Kind) × Has meta program pattern body (Result e slots) k) ⊎ ((k : Kind) → Has meta program pattern body (Result e slots) k → ⊥)
 
 -- so it is for each pattern
 pub record AreTold (meta : Metamodel) (program : Program) (known : List (List (List Kind))) (clashes : List Bool) : Type 0 where
