@@ -12,6 +12,7 @@ mod PatternLemmas
 mod TellLemmas
 mod JoinLemmas
 mod AnyUnboundLemmas
+mod ExistLemmas
 mod LeanLemmas
 mod LeanKindLemmas
 mod LeanFaultLemmas
