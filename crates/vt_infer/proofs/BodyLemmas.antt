@@ -204,8 +204,8 @@ module _ (meta : Metamodel) (program : Program) (pattern : Pattern) (body : Body
       let still : one.count ≤ f.count = omega (arith, rest.count, h) in
       elim (Contains-cons_cases p (Var x, origin) ps there) [
         | inl same ↦
-            let t : p.0 ≡ Var x = ap (λ q. q.0) same in
-            let o : p.1 ≡ origin = ap (λ q. q.1) same in
+            let t : p.0 ≡ Var x = ap (λ (q : Term × Origin). q.0) same in
+            let o : p.1 ≡ origin = ap (λ (q : Term × Origin). q.1) same in
             given-closed f p.0 (origin_kinds known kinds p.1) still x k t below (subst (λ r. is_among k (origin_kinds known kinds r) ≡ true) (sym o) among)
         | inr later ↦
             all_given-closed kinds ps f (subst (λ g. (all_given g (all_placed known kinds ps)).count ≤ f.count) (first.same still) h) x origin k later below among
@@ -250,7 +250,7 @@ with_types-has : (params : List Param) (i : ℕ) (f : Found) (x : ℕ) (p : Para
     → Taken (with_types f i params).kinds (i + x) (type_kind type)
 with_types-has [] i f x p type below at is = absurd (none-some p at)
 with_types-has (q ∷ params) i f zero p type below at is =
-    let same : q.ty ≡ Some type = ap (λ r. r.ty) (same_Some q p at) ∙ is in
+    let same : q.ty ≡ Some type = ap (λ (r : Param). r.ty) (same_Some q p at) ∙ is in
     let here : i < length f.kinds = omega arith in
     let first : Taken (with_type f i q.ty).kinds i (type_kind type) = subst (λ o. Taken (with_type f i o).kinds i (type_kind type)) (sym same) (with_kind-has f i (type_kind type) here) in
     let one = with_type f i q.ty in
@@ -288,12 +288,12 @@ TellsKinds-all meta program pattern body of known knows kinds a =
     let start : Found = with_types (nothing body.vars) 0 pattern.params in
     let last : Found = rounds meta known body.constraints a.n start in
     let rows : length start.kinds ≡ body.vars = length-Adds (nothing body.vars) start (Adds-with_types (nothing body.vars) 0 pattern.params) ∙ length-replicate body.vars [] in
-    let count : length kinds ≡ body.vars = ap (λ g. length g.kinds) a.reached ∙ length-Adds start last (Adds-rounds meta known body.constraints a.n start) ∙ rows in
+    let count : length kinds ≡ body.vars = ap (λ (g : Found). length g.kinds) a.reached ∙ length-Adds start last (Adds-rounds meta known body.constraints a.n start) ∙ rows in
     let sound : Sound meta program pattern body of known knows kinds = subst (λ g. Sound meta program pattern body of known knows g.kinds) (sym a.reached)
             (rounds-sound meta program pattern body of known knows a.n start rows
                 (with_types-sound meta program pattern body of known knows pattern.params 0 (nothing body.vars) (λ x p at. moved (λ n. slice_get pattern.params n ≡ Some p) x (0 + x) (omega arith) at)
                     (length-replicate body.vars []) (nothing-sound meta program pattern body of known knows))) in
-    let still : (round meta known f body.constraints).count ≤ f.count = omega (arith, ap (λ g. g.count) a.still) in
+    let still : (round meta known f body.constraints).count ≤ f.count = omega (arith, ap (λ (g : Found). g.count) a.still) in
     let closed : Closed meta program pattern body of known knows kinds = λ c x origin k there place below among.
             round-closed meta program pattern body of known knows body.constraints f still c x origin k there place (subst (λ n. x < n) (sym count) below) among in
     let types : (x : ℕ) (p : Param) (type : Ty) → x < body.vars → slice_get pattern.params x ≡ Some p → p.ty ≡ Some type → Taken kinds x (type_kind type) =

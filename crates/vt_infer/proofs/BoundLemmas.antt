@@ -236,8 +236,8 @@ TellsBound-all body marks a =
     let m : Marked = record { marks = marks; count = a.count } in
     let start : Marked = unmarked body.vars in
     let last : Marked = bind_rounds body.constraints a.n start in
-    let count : length marks ≡ body.vars = ap (λ n. length n.marks) a.reached ∙ length-More start last (More-bind_rounds body.constraints a.n start) ∙ length-replicate body.vars false in
-    let still : (bind_round m body.constraints).count ≤ m.count = omega (arith, ap (λ n. n.count) a.still) in
+    let count : length marks ≡ body.vars = ap (λ (n : Marked). length n.marks) a.reached ∙ length-More start last (More-bind_rounds body.constraints a.n start) ∙ length-replicate body.vars false in
+    let still : (bind_round m body.constraints).count ≤ m.count = omega (arith, ap (λ (n : Marked). n.count) a.still) in
     record {
       count = count;
       so = subst (λ n. Sound body n.marks) (sym a.reached)

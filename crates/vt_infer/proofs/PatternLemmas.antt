@@ -259,7 +259,7 @@ module _ (meta : Metamodel) (program : Program) (p : PatternId) (pattern : Patte
   -- what a parameter gives comes from one of the bodies
   from_has : (q : PatternId) (j : ℕ) (k : Kind) (within : Pattern) (inner : Body) → Has meta program within inner (Parameter q j) k → q ≡ p → FromBody j k
   from_has _ _ _ _ _ (parameter within inner q j called other k there inside of has) is =
-      let same : called ≡ pattern = same_Some called pattern (sym there ∙ ap (λ r. slice_get program.patterns r.0) is ∙ at) in
+      let same : called ≡ pattern = same_Some called pattern (sym there ∙ ap (λ (r : PatternId). slice_get program.patterns r.0) is ∙ at) in
       record {
         body = other;
         of = subst (λ c. Contains c.bodies other) same of;

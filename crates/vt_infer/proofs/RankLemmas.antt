@@ -102,7 +102,7 @@ behind_first r i s ranks p o = record { j = suc o.j; is = omega (arith, o.is); a
 
 of_rank : (r i s : ℕ) (ranks : List ℕ) (p : PatternId) → ((n : ℕ) → slice_get (ranked_from r (i + 1) ranks) n ≡ Some p → OfRank r (i + 1) ranks p)
     → (b : Bool) → nat_eq s r ≡ b → (n : ℕ) → slice_get (if b then id i ∷ ranked_from r (i + 1) ranks else ranked_from r (i + 1) ranks) n ≡ Some p → OfRank r i (s ∷ ranks) p
-of_rank r i s ranks p rest true e zero at = record { j = 0; is = omega (arith, ap (λ q. q.0) (sym (same_Some (id i) p at))); at = ap Some (equal_numbers s r e) }
+of_rank r i s ranks p rest true e zero at = record { j = 0; is = omega (arith, ap (λ (q : PatternId). q.0) (sym (same_Some (id i) p at))); at = ap Some (equal_numbers s r e) }
 of_rank r i s ranks p rest true e (suc n) at = behind_first r i s ranks p (rest n at)
 of_rank r i s ranks p rest false e n at = behind_first r i s ranks p (rest n at)
 

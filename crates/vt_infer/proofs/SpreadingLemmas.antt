@@ -28,12 +28,12 @@ module _ (meta : Metamodel) (known : List (List (List Kind))) (pattern : Pattern
       → IsSpreading meta known pattern body more after is_new
   spreading_step found more before after was is_new s is new counted = record {
     n = suc s.n;
-    reached = is ∙ ap (λ f. round meta known f body.constraints) s.reached ∙ sym (rounds-more meta known body.constraints s.n (with_types (nothing body.vars) 0 pattern.params));
+    reached = is ∙ ap (λ (f : Found). round meta known f body.constraints) s.reached ∙ sym (rounds-more meta known body.constraints s.n (with_types (nothing body.vars) 0 pattern.params));
     counted = counted;
     still = λ e.
         let grows : Grows found (round meta known found body.constraints) = Grows-Adds found (round meta known found body.constraints) (Adds-round meta known found body.constraints) in
         let few : more.count ≤ before = ltb-false before more.count (sym new ∙ e) in
-        let same : round meta known found body.constraints ≡ found = grows.same (omega (arith, few, s.counted, ap (λ f. f.count) is)) in
+        let same : round meta known found body.constraints ≡ found = grows.same (omega (arith, few, s.counted, ap (λ (f : Found). f.count) is)) in
         let e2 : more ≡ found = is ∙ same in
         ap (λ f. round meta known f body.constraints) e2 ∙ same ∙ sym e2;
   }
@@ -61,7 +61,7 @@ module _ (body : Body) where
     still = λ e.
         let rises : Rises marked (bind_round marked body.constraints) = Rises-More marked (bind_round marked body.constraints) (More-bind_round marked body.constraints) in
         let few : more.count ≤ before = ltb-false before more.count (sym new ∙ e) in
-        let same : bind_round marked body.constraints ≡ marked = rises.same (omega (arith, few, s.counted, ap (λ m. m.count) is)) in
+        let same : bind_round marked body.constraints ≡ marked = rises.same (omega (arith, few, s.counted, ap (λ (m : Marked). m.count) is)) in
         let e2 : more ≡ marked = is ∙ same in
         ap (λ m. bind_round m body.constraints) e2 ∙ same ∙ sym e2;
   }

@@ -19,8 +19,13 @@ use Rattle.vt_query.specs.declared.program.Program.{Program}
 use Rattle.vt_infer.specs.Inside.Found.{is_among, kinds_at}
 use Rattle.vt_infer.specs.Inside.Placing.{parameter_kinds}
 use Rattle.vt_infer.specs.Inside.Patterns.{AreTables, merged, pattern_clashes, IsTold, AreTold}
+use Rattle.vt_infer.proofs.CallLemmas.{id}
 use Rattle.vt_infer.proofs.BodyLemmas.{KnowsCalled}
 use Rattle.vt_infer.proofs.PatternLemmas.{rows_so, rows_all, length-merged, pattern_clashes_so, pattern_clashes_has, decided_result}
+
+-- patterns with one number are one
+id_same : (p q : PatternId) → p.0 ≡ q.0 → p ≡ q
+id_same p q e = ap id e
 
 -- an item of a list after another one was written
 item_same : {X : Type 0} (xs : List X) (i : ℕ) (v d : X) → i < length xs → unwrap_or (slice_get (slice_set xs i v) i) d ≡ v
@@ -113,9 +118,8 @@ module _ (meta : Metamodel) (program : Program) (order : List PatternId) (ordere
         told = λ q other there is.
             elim (cases_eq q.0 p.0) [
               | inl same ↦
-                  let one : PatternId = p in
                   let pattern_is : Some pattern ≡ Some other = sym at ∙ ap (slice_get program.patterns) (sym same) ∙ is in
-                  let q_is : p ≡ q = ap (λ n. record { 0 = n }) (sym same) in
+                  let q_is : p ≡ q = id_same p q (sym same) in
                   subst (λ r. IsTold meta program (slice_set known p.0 rows) (slice_set clashes p.0 clash) r other) q_is
                   (subst (IsTold meta program (slice_set known p.0 rows) (slice_set clashes p.0 clash) p) (same_Some pattern other pattern_is) new)
               | inr differs ↦
@@ -125,7 +129,7 @@ module _ (meta : Metamodel) (program : Program) (order : List PatternId) (ordere
       }
     where
       front : (q : PatternId) → q.0 ≢ p.0 → Contains (take i order ++ p ∷ []) q → Contains (take i order) q
-      front q differs there = elim (Contains-push_cases (take i order) p q there) [ inl old ↦ old | inr is ↦ absurd (differs (ap (λ r. r.0) (sym is))) ]
+      front q differs there = elim (Contains-push_cases (take i order) p q there) [ inl old ↦ old | inr is ↦ absurd (differs (ap (λ (r : PatternId). r.0) (sym is))) ]
 
   -- a number that no pattern has is passed over
   pub telling_past : (i : ℕ) (known : List (List (List Kind))) (clashes : List Bool) → IsTelling meta program order i known clashes → (p : PatternId) → take (i + 1) order ≡ take i order ++ p ∷ []
@@ -136,7 +140,7 @@ module _ (meta : Metamodel) (program : Program) (order : List PatternId) (ordere
     told = λ q other there is.
         elim (Contains-push_cases (take i order) p q (subst (λ ps. Contains ps q) more there)) [
           | inl old ↦ t.told q other old is
-          | inr same ↦ absurd (none-some other (sym none ∙ ap (λ r. slice_get program.patterns r.0) same ∙ is))
+          | inr same ↦ absurd (none-some other (sym none ∙ ap (λ (r : PatternId). slice_get program.patterns r.0) same ∙ is))
         ];
   }
 
