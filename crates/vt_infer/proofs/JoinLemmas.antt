@@ -14,6 +14,8 @@ use Rattle.vt_query.specs.Calls.{Calls}
 use Rattle.vt_query.specs.Recursion.{Leads, directly, IsRecursive}
 use Rattle.vt_query.specs.Faults.{Clashes, IsUnbound, Recursive, KindClash, Unbound, StandsAt}
 use Rattle.vt_query.specs.Checking.{StandsNowhere, IsFirstFault, HasNoFault, CheckOf, IsCallOrder}
+use Rattle.vt_query.specs.Binding.{IsBound}
+use Rattle.vt_query.specs.declared.program.Body.{Body}
 use Rattle.vt_query.specs.declared.program.Pattern.{Pattern}
 use Rattle.vt_query.specs.declared.program.Program.{Program}
 use Rattle.vt_infer.specs.Inside.CallTable.{is_marked, row_at, call_rows, closed, rank, ranked_below}
@@ -181,3 +183,19 @@ no_fault meta program known clashes marks acyclic t none all free = record {
   clash = mark_none program clashes (Clashes meta program) (TellsEach-clashes meta program known clashes t) none;
   unbound = mark_none program marks IsUnbound (TellsEach-unbound program marks all) free;
 }
+
+-- where no pattern has a mark all variables are bound
+zip_none : (patterns : List Pattern) (marks : List Bool) → AreToldUnbound patterns marks → (i : ℕ) (pattern : Pattern) → slice_get patterns i ≡ Some pattern → unwrap_or (slice_get marks i) false ≡ false
+    → (body : Body) (x : ℕ) → Contains pattern.bodies body → x < body.vars → IsBound body x
+zip_none [] marks all i pattern at off body x of below = absurd (none-some pattern at)
+zip_none (p ∷ patterns) [] all i pattern at off body x of below = absurd all
+zip_none (p ∷ patterns) (m ∷ marks) all zero pattern at off body x of below = all.0.none off body x (subst (λ q. Contains q.bodies body) (sym (same_Some p pattern at)) of) below
+zip_none (p ∷ patterns) (m ∷ marks) all (suc i) pattern at off body x of below = zip_none patterns marks all.1 i pattern at off body x of below
+
+pub bound_everywhere : (program : Program) (marks : List Bool) → AreToldUnbound program.patterns marks → first_mark marks ≡ None
+    → (p : PatternId) (pattern : Pattern) (body : Body) (x : ℕ) → slice_get program.patterns p.0 ≡ Some pattern → Contains pattern.bodies body → x < body.vars → IsBound body x
+bound_everywhere program marks all e p pattern body x at of below =
+    let none : NoneAt (λ j. unwrap_or (slice_get marks j) false) 0 (length marks) = subst (λ o. Finds (λ j. unwrap_or (slice_get marks j) false) 0 (length marks) o) e (first_mark-finds marks) in
+    let there : p.0 < length program.patterns = slice_get_within program.patterns p.0 pattern at in
+    let count : length marks ≡ length program.patterns = zip_length program.patterns marks all in
+    zip_none program.patterns marks all p.0 pattern at (none p.0 (omega arith) (omega (arith, there, count))) body x of below

@@ -13,6 +13,8 @@ mod TellLemmas
 mod JoinLemmas
 mod AnyUnboundLemmas
 mod ExistLemmas
+mod LeanFormedLemmas
+mod WholeLemmas
 mod LeanLemmas
 mod LeanKindLemmas
 mod LeanFaultLemmas

@@ -1,9 +1,12 @@
 -- What the check knows of a program once no fault was found.
-use Rattle.std.specs.Prelude.{◌≡◌, Bool, List, None}
+use Rattle.std.specs.Prelude.{◌≡◌, ℕ, ◌<◌, Bool, List, Contains, slice_get, Some, None}
 use Rattle.vt_base.specs.declared.numbers.PatternId.{PatternId}
 use Rattle.vt_base.specs.declared.value.Kind.{Kind}
 use Rattle.vt_model.specs.Metamodel.{Metamodel}
+use Rattle.vt_query.specs.Binding.{IsBound}
 use Rattle.vt_query.specs.Checking.{HasNoFault, IsCallOrder}
+use Rattle.vt_query.specs.declared.program.Body.{Body}
+use Rattle.vt_query.specs.declared.program.Pattern.{Pattern}
 use Rattle.vt_query.specs.declared.program.Program.{Program}
 use Rattle.vt_infer.specs.Inside.CallTable.{call_rows, closed}
 use Rattle.vt_infer.specs.Inside.First.{first_own}
@@ -20,3 +23,6 @@ pub record IsFound (meta : Metamodel) (program : Program) (order : List PatternI
   pub ordered : IsCallOrder program order
   pub clashes : List Bool
   pub told : AreTold meta program known clashes
+  -- each variable of a body is bound
+  pub bound : (p : PatternId) (pattern : Pattern) (body : Body) (x : ℕ) → slice_get program.patterns p.0 ≡ Some pattern → Contains pattern.bodies body → x < body.vars
+      → IsBound body x
