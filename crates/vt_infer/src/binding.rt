@@ -1,5 +1,5 @@
 // The variables of a body that are bound, found by rounds until none is new.
-ghost use Rattle.std.specs.Prelude.{◌≡◌, ◌≤◌, [], ◌∷◌, length, OnOk, IfOk};
+ghost use Rattle.std.specs.Prelude.{◌≡◌, ◌≤◌, [], ◌∷◌, ◌++◌, if◌then◌else◌, length, OnOk, IfOk};
 ghost use Rattle.std.specs.List.{list_all, flat_map};
 ghost use Rattle.vt_query.specs.Binding.{term_variables, arg_variables, bindings};
 ghost use Rattle.vt_infer.specs.Inside.Marked.{has_mark, with_marks, after_all, bind_round, AreAllMarks};
@@ -65,9 +65,29 @@ fn equate(marked: &mut Marked, term: &Term, other: &Term) -> Result<(), NoMemory
     ensures { OnOk result (marked.new ≡ after_all marked.old (record { variables = term_variables term.now; once = term_variables other.now } ∷ [])) }
 {
     if is_bound(marked, other) {
-        mark_term(marked, term)?;
+        mark_term(marked, term)
+    } else {
+        Ok(())
     }
-    Ok(())
+}
+
+// Marks two terms.
+fn mark_both(marked: &mut Marked, from: &Term, to: &Term) -> Result<(), NoMemory>
+    ensures { OnOk result (marked.new ≡ with_marks marked.old (term_variables from.now ++ term_variables to.now)) }
+{
+    mark_term(marked, from)?;
+    mark_term(marked, to)
+}
+
+// Marks a term once variables are marked.
+fn mark_once(marked: &mut Marked, term: &Term, once: bool) -> Result<(), NoMemory>
+    ensures { OnOk result (marked.new ≡ (if once then with_marks marked.old (term_variables term.now) else marked.old)) }
+{
+    if once {
+        mark_term(marked, term)
+    } else {
+        Ok(())
+    }
 }
 
 // Marks what a constraint binds.
@@ -79,30 +99,20 @@ fn bind(marked: &mut Marked, constraint: &Constraint) -> Result<(), NoMemory>
             ty: Ty::Class(_),
             term,
         } => mark_term(marked, term),
-        Constraint::Attr { from, to, .. } => {
-            mark_term(marked, from)?;
-            mark_term(marked, to)
-        }
-        Constraint::Ref { from, to, .. } => {
-            mark_term(marked, from)?;
-            mark_term(marked, to)
-        }
+        Constraint::Attr { from, to, .. } => mark_both(marked, from, to),
+        Constraint::Ref { from, to, .. } => mark_both(marked, from, to),
         Constraint::Find { args, .. } => mark_terms(marked, args.as_slice()),
         Constraint::Equal(a, b) => {
             equate(marked, a, b)?;
             equate(marked, b, a)
         }
         Constraint::Eval { result, slots, .. } => {
-            if are_bound(marked, slots.as_slice()) {
-                mark_term(marked, result)?;
-            }
-            Ok(())
+            let once = are_bound(marked, slots.as_slice());
+            mark_once(marked, result, once)
         }
         Constraint::Agg { result, args, .. } => {
-            if args_bound(marked, args.as_slice()) {
-                mark_term(marked, result)?;
-            }
-            Ok(())
+            let once = args_bound(marked, args.as_slice());
+            mark_once(marked, result, once)
         }
         _ => Ok(()),
     }

@@ -1,7 +1,7 @@
 // Which patterns call which, directly or through others: a row of marks for each.
 ghost use Rattle.std.specs.Prelude.{◌≡◌, length, replicate, OnOk, IfOk};
 ghost use Rattle.vt_query.specs.Calls.{called};
-ghost use Rattle.vt_infer.specs.Inside.CallTable.{is_marked, row_at, with_calls, with_bodies, call_row, call_rows, either_row, row_through, rows_through, closed};
+ghost use Rattle.vt_infer.specs.Inside.CallTable.{is_marked, row_at, with_call, with_calls, with_bodies, call_row, call_rows, either_row, row_through, rows_through, closed};
 
 use std::alloc::Global;
 use vt_base::{List, NoMemory, PatternId, Plain};
@@ -19,17 +19,24 @@ fn called(constraint: &Constraint) -> Option<PatternId>
     }
 }
 
+// Marks a pattern that is called.
+fn mark_call(row: &mut Vec<bool>, called: Option<PatternId>)
+    ensures { row.new.items ≡ with_call row.old.items called }
+{
+    if let Some(p) = called {
+        let i = usize::from(p.0);
+        if i < row.len() {
+            row[i] = true;
+        }
+    }
+}
+
 // Marks the patterns that constraints call.
 fn mark_calls(row: &mut Vec<bool>, constraints: &[Constraint])
     ensures { row.new.items ≡ with_calls row.old.items constraints.now }
 {
     for constraint in constraints {
-        if let Some(p) = called(constraint) {
-            let i = usize::from(p.0);
-            if i < row.len() {
-                row[i] = true;
-            }
-        }
+        mark_call(row, called(constraint));
     }
 }
 

@@ -1,10 +1,7 @@
 // The kinds of the parameters of all patterns, and which patterns have kinds that clash.
-ghost use Rattle.std.specs.Prelude.{◌≡◌, ◌≤◌, ℕ, length, replicate, map, OnOk, IfOk};
+ghost use Rattle.std.specs.Prelude.{◌≡◌, ◌<◌, length, replicate, map, OnOk, IfOk};
 ghost use Rattle.vt_query.specs.Checking.{IsCallOrder};
-ghost use Rattle.vt_query.specs.Recursion.{IsRecursive};
-ghost use Rattle.vt_query.specs.declared.program.Program.{Program};
-ghost use Rattle.vt_base.specs.declared.numbers.PatternId.{PatternId};
-ghost use Rattle.vt_infer.specs.Inside.Patterns.{AreTables, with_table, with_tables, merged, any_body_clashes, pattern_clashes, AreTold, first_kinds, all_first_kinds};
+ghost use Rattle.vt_infer.specs.Inside.Patterns.{AreTables, with_table, with_tables, merged, any_body_clashes, pattern_clashes, IsToldOne, AreTold, first_kinds, all_first_kinds};
 
 use crate::clashes::{any_many, clashes_in};
 use crate::found::Found;
@@ -116,6 +113,34 @@ fn untold(alloc: Global, count: usize) -> Result<(Vec<List<List<Kind>>>, Vec<boo
     Ok((known, clashes))
 }
 
+// Tells one pattern, where those that it calls are told.
+fn tell_one(
+    alloc: Global,
+    meta: &Metamodel,
+    pattern: &Pattern,
+    i: usize,
+    known: &mut Vec<List<List<Kind>>>,
+    clashes: &mut Vec<bool>,
+) -> Result<(), NoMemory>
+    requires known { i < length known.old.items }
+    requires clashes { i < length clashes.old.items }
+    ensures { OnOk result (IsToldOne meta.now pattern.now i known.old.items clashes.old.items known.new.items clashes.new.items) }
+{
+    let tables = tables(alloc, meta, known.as_slice(), pattern)?;
+    let rows = merged(alloc, pattern.params.len(), tables.as_slice())?;
+    let clash = pattern_clashes(
+        alloc,
+        meta,
+        known.as_slice(),
+        pattern,
+        tables.as_slice(),
+        rows.as_slice(),
+    )?;
+    known[i] = rows;
+    clashes[i] = clash;
+    Ok(())
+}
+
 /// The kinds of the parameters of all patterns, and where kinds clash. The patterns are taken in an
 /// order in which each stands after those that it calls.
 pub(crate) fn tell(
@@ -124,27 +149,16 @@ pub(crate) fn tell(
     program: &Program,
     order: &[PatternId],
 ) -> Result<Told, NoMemory>
-    requires order { IsCallOrder program.now order.now }
-    requires acyclic { (p : PatternId) → IsRecursive program.now p → ⊥ }
+    requires { IsCallOrder program.now order.now }
     ensures { IfOk result (λ told. AreTold meta.now program.now told.known told.clashes) }
 {
     let (mut known, mut clashes) = untold(alloc, program.patterns.len())?;
     for p in order {
         let i = usize::from(p.0);
-        if let Some(pattern) = program.patterns.get(i) {
-            let tables = tables(alloc, meta, known.as_slice(), pattern)?;
-            let rows = merged(alloc, pattern.params.len(), tables.as_slice())?;
-            let clash = pattern_clashes(
-                alloc,
-                meta,
-                known.as_slice(),
-                pattern,
-                tables.as_slice(),
-                rows.as_slice(),
-            )?;
-            known[i] = rows;
-            clashes[i] = clash;
-        }
+        let Some(pattern) = program.patterns.get(i) else {
+            continue;
+        };
+        tell_one(alloc, meta, pattern, i, &mut known, &mut clashes)?;
     }
     Ok(Told {
         known: List::from_vec(known),

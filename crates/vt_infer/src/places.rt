@@ -1,13 +1,16 @@
 // The places of a constraint, each with the kinds that are found for it.
 ghost use Rattle.std.specs.Prelude.{◌≡◌, ◌++◌, ◌∷◌, [], OnOk, IfOk};
 ghost use Rattle.vt_model.specs.Fits.{kind_of};
-ghost use Rattle.vt_query.specs.Kinds.{type_kind, places, argument_places, asked_places};
+ghost use Rattle.std.specs.Prelude.{List};
+ghost use Rattle.vt_base.specs.declared.value.Kind.{Kind};
+ghost use Rattle.vt_base.specs.declared.value.Kind.TheVariants.{Obj};
+ghost use Rattle.vt_query.specs.Kinds.{Fixed, Alike, type_kind, value_place, attribute_kind, places, argument_places, asked_place, asked_places};
 ghost use Rattle.vt_infer.specs.Inside.Placing.{parameter_kinds, term_kinds, target_of, all_placed};
 
 use crate::expression::{copies, expression_kinds};
 use crate::found::kinds_at;
 use std::alloc::Global;
-use vt_base::{Kind, List, NoMemory, PatternId, Value};
+use vt_base::{AttrId, Kind, List, NoMemory, PatternId, Value};
 use vt_model::Metamodel;
 use vt_query::{Arg, Constraint, Term, Ty};
 
@@ -111,37 +114,141 @@ fn add(places: &mut List<Place>, term: &Term, kinds: List<Kind>) -> Result<(), N
 // Adds the places of the arguments of a call.
 fn add_arguments(
     alloc: Global,
-    sight: Sight<'_>,
+    known: &[List<List<Kind>>],
     p: PatternId,
     args: &[Term],
     places: &mut List<Place>,
 ) -> Result<(), NoMemory>
-    ensures { OnOk result (places.new ≡ places.old ++ all_placed sight.entry.known.now sight.entry.kinds.now (argument_places p 0 args.now)) }
+    ensures { (kinds : List (List Kind)) → OnOk result (places.new ≡ places.old ++ all_placed known.now kinds (argument_places p 0 args.now)) }
 {
     for (j, term) in args.iter().enumerate() {
-        let kinds = copies(alloc, parameter_kinds(sight.known, p, j))?;
+        let kinds = copies(alloc, parameter_kinds(known, p, j))?;
         add(places, term, kinds)?;
     }
     Ok(())
 }
 
+// Adds the place of an argument that has a term.
+fn add_argument(
+    alloc: Global,
+    known: &[List<List<Kind>>],
+    p: PatternId,
+    j: usize,
+    arg: &Arg,
+    places: &mut List<Place>,
+) -> Result<(), NoMemory>
+    ensures { (kinds : List (List Kind)) → OnOk result (places.new ≡ places.old ++ all_placed known.now kinds (asked_place p j arg.now)) }
+{
+    match arg {
+        Arg::Term(term) => {
+            let kinds = copies(alloc, parameter_kinds(known, p, j))?;
+            add(places, term, kinds)
+        }
+        _ => Ok(()),
+    }
+}
+
 // Adds the places of the arguments of a call that asks for several rows.
 fn add_asked(
     alloc: Global,
-    sight: Sight<'_>,
+    known: &[List<List<Kind>>],
     p: PatternId,
     args: &[Arg],
     places: &mut List<Place>,
 ) -> Result<(), NoMemory>
-    ensures { OnOk result (places.new ≡ places.old ++ all_placed sight.entry.known.now sight.entry.kinds.now (asked_places p 0 args.now)) }
+    ensures { (kinds : List (List Kind)) → OnOk result (places.new ≡ places.old ++ all_placed known.now kinds (asked_places p 0 args.now)) }
 {
     for (j, arg) in args.iter().enumerate() {
-        if let Arg::Term(term) = arg {
-            let kinds = copies(alloc, parameter_kinds(sight.known, p, j))?;
-            add(places, term, kinds)?;
-        }
+        add_argument(alloc, known, p, j, arg, places)?;
     }
     Ok(())
+}
+
+// The place of a term alone.
+fn one_place(alloc: Global, term: &Term, kinds: List<Kind>) -> Result<List<Place>, NoMemory>
+    ensures { IfOk result (λ found. found ≡ record { target = target_of term.now; kinds = kinds } ∷ []) }
+{
+    let mut places = List::new(alloc);
+    add(&mut places, term, kinds)?;
+    Ok(places)
+}
+
+// The places of two terms.
+fn two_places(
+    alloc: Global,
+    first: &Term,
+    of_first: List<Kind>,
+    second: &Term,
+    of_second: List<Kind>,
+) -> Result<List<Place>, NoMemory>
+    ensures { IfOk result (λ found. found ≡
+        record { target = target_of first.now; kinds = of_first } ∷ record { target = target_of second.now; kinds = of_second } ∷ []) }
+{
+    let mut places = List::new(alloc);
+    add(&mut places, first, of_first)?;
+    add(&mut places, second, of_second)?;
+    Ok(places)
+}
+
+// The places of an attribute's object and of its value.
+fn attribute_places(
+    alloc: Global,
+    meta: &Metamodel,
+    attr: AttrId,
+    from: &Term,
+    to: &Term,
+) -> Result<List<Place>, NoMemory>
+    ensures { (known : List (List (List Kind))) (kinds : List (List Kind))
+        → IfOk result (λ found. found ≡ all_placed known kinds ((from.now, Fixed Obj) ∷ value_place (attribute_kind meta.now attr.0) to.now)) }
+{
+    match meta.attribute(attr) {
+        Some(info) => two_places(alloc, from, one(alloc, Kind::Obj)?, to, one(alloc, info.kind)?),
+        None => one_place(alloc, from, one(alloc, Kind::Obj)?),
+    }
+}
+
+// The places of the two sides of an equation.
+fn equal_places(
+    alloc: Global,
+    kinds: &[List<Kind>],
+    a: &Term,
+    b: &Term,
+) -> Result<List<Place>, NoMemory>
+    ensures { (known : List (List (List Kind)))
+        → IfOk result (λ found. found ≡ all_placed known kinds.now ((a.now, Alike b.now) ∷ (b.now, Alike a.now) ∷ [])) }
+{
+    let of_a = term_kinds(alloc, kinds, a)?;
+    let of_b = term_kinds(alloc, kinds, b)?;
+    two_places(alloc, a, of_b, b, of_a)
+}
+
+// The places of the arguments of a call, behind some others.
+fn call_places(
+    alloc: Global,
+    known: &[List<List<Kind>>],
+    p: PatternId,
+    args: &[Arg],
+    first: List<Place>,
+) -> Result<List<Place>, NoMemory>
+    ensures { (kinds : List (List Kind)) → IfOk result (λ found. found ≡ first ++ all_placed known.now kinds (asked_places p 0 args.now)) }
+{
+    let mut places = first;
+    add_asked(alloc, known, p, args, &mut places)?;
+    Ok(places)
+}
+
+// The places of the arguments of a positive call.
+fn find_places(
+    alloc: Global,
+    known: &[List<List<Kind>>],
+    p: PatternId,
+    args: &[Term],
+) -> Result<List<Place>, NoMemory>
+    ensures { (kinds : List (List Kind)) → IfOk result (λ found. found ≡ all_placed known.now kinds (argument_places p 0 args.now)) }
+{
+    let mut places = List::new(alloc);
+    add_arguments(alloc, known, p, args, &mut places)?;
+    Ok(places)
 }
 
 /// The places of a constraint.
@@ -153,36 +260,31 @@ pub(crate) fn places_of(
 ) -> Result<List<Place>, NoMemory>
     ensures { IfOk result (λ found. found ≡ all_placed sight.entry.known.now sight.entry.kinds.now (places meta.now constraint.now)) }
 {
-    let mut places = List::new(alloc);
     match constraint {
-        Constraint::Is { ty, term } => add(&mut places, term, one(alloc, type_kind(*ty))?)?,
-        Constraint::Attr { attr, from, to, .. } => {
-            add(&mut places, from, one(alloc, Kind::Obj)?)?;
-            if let Some(info) = meta.attribute(*attr) {
-                add(&mut places, to, one(alloc, info.kind)?)?;
-            }
+        Constraint::Is { ty, term } => {
+            let kinds = one(alloc, type_kind(*ty))?;
+            one_place(alloc, term, kinds)
         }
+        Constraint::Attr { attr, from, to, .. } => attribute_places(alloc, meta, *attr, from, to),
         Constraint::Ref { from, to, .. } => {
-            add(&mut places, from, one(alloc, Kind::Obj)?)?;
-            add(&mut places, to, one(alloc, Kind::Obj)?)?;
+            let first = one(alloc, Kind::Obj)?;
+            let second = one(alloc, Kind::Obj)?;
+            two_places(alloc, from, first, to, second)
         }
-        Constraint::Equal(a, b) => {
-            add(&mut places, a, term_kinds(alloc, sight.kinds, b)?)?;
-            add(&mut places, b, term_kinds(alloc, sight.kinds, a)?)?;
-        }
+        Constraint::Equal(a, b) => equal_places(alloc, sight.kinds, a, b),
         Constraint::Find { pattern, args } => {
-            add_arguments(alloc, sight, *pattern, args.as_slice(), &mut places)?;
+            find_places(alloc, sight.known, *pattern, args.as_slice())
         }
         Constraint::Neg { pattern, args } => {
-            add_asked(alloc, sight, *pattern, args.as_slice(), &mut places)?;
+            call_places(alloc, sight.known, *pattern, args.as_slice(), List::new(alloc))
         }
         Constraint::Eval {
             result,
             expr,
             slots,
         } => {
-            let of = expression_kinds(alloc, sight.kinds, slots.as_slice(), expr)?;
-            add(&mut places, result, of)?;
+            let kinds = expression_kinds(alloc, sight.kinds, slots.as_slice(), expr)?;
+            one_place(alloc, result, kinds)
         }
         Constraint::Agg {
             result,
@@ -190,11 +292,10 @@ pub(crate) fn places_of(
             args,
             ..
         } => {
-            add(&mut places, result, one(alloc, Kind::Int)?)?;
-            add_asked(alloc, sight, *pattern, args.as_slice(), &mut places)?;
+            let kinds = one(alloc, Kind::Int)?;
+            let first = one_place(alloc, result, kinds)?;
+            call_places(alloc, sight.known, *pattern, args.as_slice(), first)
         }
-        Constraint::Differ(..) => {}
-        Constraint::Check { .. } => {}
+        _ => Ok(List::new(alloc)),
     }
-    Ok(places)
 }

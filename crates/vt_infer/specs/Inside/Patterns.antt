@@ -1,5 +1,5 @@
 -- The kinds of the parameters of patterns, and which patterns have kinds that clash.
-use Rattle.std.specs.Prelude.{◌≡◌, ◌↔◌, ◌⊎◌, ℕ, ◌+◌, ◌<◌, ◌||◌, Contains, Bool, true, false, List, [], ◌∷◌, length, map, slice_get, unwrap_or, Some}
+use Rattle.std.specs.Prelude.{◌≡◌, ◌↔◌, ◌⊎◌, ℕ, ◌+◌, ◌<◌, ◌||◌, Contains, Bool, true, false, List, [], ◌∷◌, length, map, slice_get, slice_set, unwrap_or, Some}
 use Rattle.std.specs.List.{AllZip, list_any, filter_map}
 use Rattle.vt_base.specs.declared.numbers.PatternId.{PatternId}
 use Rattle.vt_base.specs.declared.value.Kind.{Kind}
@@ -41,6 +41,13 @@ any_body_clashes meta known bodies tables = false
 abbrev pub pattern_clashes : Metamodel → List (List (List Kind)) → Pattern → List (List (List Kind)) → Bool
 pattern_clashes meta known pattern tables =
     any_body_clashes meta known pattern.bodies tables || list_any are_many (merged (length pattern.params) tables)
+
+-- what is known of one pattern is written down, by tables of its bodies
+pub record IsToldOne (meta : Metamodel) (pattern : Pattern) (i : ℕ) (known : List (List (List Kind))) (clashes : List Bool) (known_after : List (List (List Kind))) (clashes_after : List Bool) : Type 0 where
+  pub tables : List (List (List Kind))
+  pub are : AreTables meta known pattern pattern.bodies tables
+  pub rows : known_after ≡ slice_set known i (merged (length pattern.params) tables)
+  pub clash : clashes_after ≡ slice_set clashes i (pattern_clashes meta known pattern tables)
 
 -- the kinds of the parameters of a pattern are those that they get in any of its bodies, and it is told whether
 -- kinds clash there
