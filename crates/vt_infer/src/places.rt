@@ -1,8 +1,6 @@
 // The places of a constraint, each with the kinds that are found for it.
 ghost use Rattle.std.specs.Prelude.{◌≡◌, ◌++◌, ◌∷◌, [], OnOk, IfOk};
 ghost use Rattle.vt_model.specs.Fits.{kind_of};
-ghost use Rattle.std.specs.Prelude.{List};
-ghost use Rattle.vt_base.specs.declared.value.Kind.{Kind};
 ghost use Rattle.vt_base.specs.declared.value.Kind.TheVariants.{Obj};
 ghost use Rattle.vt_query.specs.Kinds.{Fixed, Alike, type_kind, value_place, attribute_kind, places, argument_places, asked_place, asked_places};
 ghost use Rattle.vt_infer.specs.Inside.Placing.{parameter_kinds, term_kinds, target_of, all_placed};
@@ -114,15 +112,15 @@ fn add(places: &mut List<Place>, term: &Term, kinds: List<Kind>) -> Result<(), N
 // Adds the places of the arguments of a call.
 fn add_arguments(
     alloc: Global,
-    known: &[List<List<Kind>>],
+    sight: Sight<'_>,
     p: PatternId,
     args: &[Term],
     places: &mut List<Place>,
 ) -> Result<(), NoMemory>
-    ensures { (kinds : List (List Kind)) → OnOk result (places.new ≡ places.old ++ all_placed known.now kinds (argument_places p 0 args.now)) }
+    ensures { OnOk result (places.new ≡ places.old ++ all_placed sight.entry.known.now sight.entry.kinds.now (argument_places p 0 args.now)) }
 {
     for (j, term) in args.iter().enumerate() {
-        let kinds = copies(alloc, parameter_kinds(known, p, j))?;
+        let kinds = copies(alloc, parameter_kinds(sight.known, p, j))?;
         add(places, term, kinds)?;
     }
     Ok(())
@@ -131,17 +129,17 @@ fn add_arguments(
 // Adds the place of an argument that has a term.
 fn add_argument(
     alloc: Global,
-    known: &[List<List<Kind>>],
+    sight: Sight<'_>,
     p: PatternId,
     j: usize,
     arg: &Arg,
     places: &mut List<Place>,
 ) -> Result<(), NoMemory>
-    ensures { (kinds : List (List Kind)) → OnOk result (places.new ≡ places.old ++ all_placed known.now kinds (asked_place p j arg.now)) }
+    ensures { OnOk result (places.new ≡ places.old ++ all_placed sight.entry.known.now sight.entry.kinds.now (asked_place p j arg.now)) }
 {
     match arg {
         Arg::Term(term) => {
-            let kinds = copies(alloc, parameter_kinds(known, p, j))?;
+            let kinds = copies(alloc, parameter_kinds(sight.known, p, j))?;
             add(places, term, kinds)
         }
         _ => Ok(()),
@@ -151,15 +149,15 @@ fn add_argument(
 // Adds the places of the arguments of a call that asks for several rows.
 fn add_asked(
     alloc: Global,
-    known: &[List<List<Kind>>],
+    sight: Sight<'_>,
     p: PatternId,
     args: &[Arg],
     places: &mut List<Place>,
 ) -> Result<(), NoMemory>
-    ensures { (kinds : List (List Kind)) → OnOk result (places.new ≡ places.old ++ all_placed known.now kinds (asked_places p 0 args.now)) }
+    ensures { OnOk result (places.new ≡ places.old ++ all_placed sight.entry.known.now sight.entry.kinds.now (asked_places p 0 args.now)) }
 {
     for (j, arg) in args.iter().enumerate() {
-        add_argument(alloc, known, p, j, arg, places)?;
+        add_argument(alloc, sight, p, j, arg, places)?;
     }
     Ok(())
 }
@@ -194,60 +192,66 @@ fn two_places(
 fn attribute_places(
     alloc: Global,
     meta: &Metamodel,
+    sight: Sight<'_>,
     attr: AttrId,
     from: &Term,
     to: &Term,
 ) -> Result<List<Place>, NoMemory>
-    ensures { (known : List (List (List Kind))) (kinds : List (List Kind))
-        → IfOk result (λ found. found ≡ all_placed known kinds ((from.now, Fixed Obj) ∷ value_place (attribute_kind meta.now attr.0) to.now)) }
+    ensures { IfOk result (λ found. found ≡
+        all_placed sight.entry.known.now sight.entry.kinds.now ((from.now, Fixed Obj) ∷ value_place (attribute_kind meta.now attr.0) to.now)) }
 {
+    let _ = sight;
+    let of_from = one(alloc, Kind::Obj)?;
     match meta.attribute(attr) {
-        Some(info) => two_places(alloc, from, one(alloc, Kind::Obj)?, to, one(alloc, info.kind)?),
-        None => one_place(alloc, from, one(alloc, Kind::Obj)?),
+        Some(info) => {
+            let of_to = one(alloc, info.kind)?;
+            two_places(alloc, from, of_from, to, of_to)
+        }
+        None => one_place(alloc, from, of_from),
     }
 }
 
 // The places of the two sides of an equation.
 fn equal_places(
     alloc: Global,
-    kinds: &[List<Kind>],
+    sight: Sight<'_>,
     a: &Term,
     b: &Term,
 ) -> Result<List<Place>, NoMemory>
-    ensures { (known : List (List (List Kind)))
-        → IfOk result (λ found. found ≡ all_placed known kinds.now ((a.now, Alike b.now) ∷ (b.now, Alike a.now) ∷ [])) }
+    ensures { IfOk result (λ found. found ≡
+        all_placed sight.entry.known.now sight.entry.kinds.now ((a.now, Alike b.now) ∷ (b.now, Alike a.now) ∷ [])) }
 {
-    let of_a = term_kinds(alloc, kinds, a)?;
-    let of_b = term_kinds(alloc, kinds, b)?;
+    let of_a = term_kinds(alloc, sight.kinds, a)?;
+    let of_b = term_kinds(alloc, sight.kinds, b)?;
     two_places(alloc, a, of_b, b, of_a)
 }
 
 // The places of the arguments of a call, behind some others.
 fn call_places(
     alloc: Global,
-    known: &[List<List<Kind>>],
+    sight: Sight<'_>,
     p: PatternId,
     args: &[Arg],
     first: List<Place>,
 ) -> Result<List<Place>, NoMemory>
-    ensures { (kinds : List (List Kind)) → IfOk result (λ found. found ≡ first ++ all_placed known.now kinds (asked_places p 0 args.now)) }
+    ensures { IfOk result (λ found. found ≡ first ++ all_placed sight.entry.known.now sight.entry.kinds.now (asked_places p 0 args.now)) }
 {
     let mut places = first;
-    add_asked(alloc, known, p, args, &mut places)?;
+    add_asked(alloc, sight, p, args, &mut places)?;
     Ok(places)
 }
 
 // The places of the arguments of a positive call.
 fn find_places(
     alloc: Global,
-    known: &[List<List<Kind>>],
+    sight: Sight<'_>,
     p: PatternId,
     args: &[Term],
 ) -> Result<List<Place>, NoMemory>
-    ensures { (kinds : List (List Kind)) → IfOk result (λ found. found ≡ all_placed known.now kinds (argument_places p 0 args.now)) }
+    ensures { IfOk result (λ found. found ≡ all_placed sight.entry.known.now sight.entry.kinds.now (argument_places p 0 args.now)) }
 {
     let mut places = List::new(alloc);
-    add_arguments(alloc, known, p, args, &mut places)?;
+    add_arguments(alloc, sight, p, args, &mut places)?;
     Ok(places)
 }
 
@@ -265,18 +269,18 @@ pub(crate) fn places_of(
             let kinds = one(alloc, type_kind(*ty))?;
             one_place(alloc, term, kinds)
         }
-        Constraint::Attr { attr, from, to, .. } => attribute_places(alloc, meta, *attr, from, to),
+        Constraint::Attr { attr, from, to, .. } => attribute_places(alloc, meta, sight, *attr, from, to),
         Constraint::Ref { from, to, .. } => {
             let first = one(alloc, Kind::Obj)?;
             let second = one(alloc, Kind::Obj)?;
             two_places(alloc, from, first, to, second)
         }
-        Constraint::Equal(a, b) => equal_places(alloc, sight.kinds, a, b),
+        Constraint::Equal(a, b) => equal_places(alloc, sight, a, b),
         Constraint::Find { pattern, args } => {
-            find_places(alloc, sight.known, *pattern, args.as_slice())
+            find_places(alloc, sight, *pattern, args.as_slice())
         }
         Constraint::Neg { pattern, args } => {
-            call_places(alloc, sight.known, *pattern, args.as_slice(), List::new(alloc))
+            call_places(alloc, sight, *pattern, args.as_slice(), List::new(alloc))
         }
         Constraint::Eval {
             result,
@@ -294,7 +298,7 @@ pub(crate) fn places_of(
         } => {
             let kinds = one(alloc, Kind::Int)?;
             let first = one_place(alloc, result, kinds)?;
-            call_places(alloc, sight.known, *pattern, args.as_slice(), first)
+            call_places(alloc, sight, *pattern, args.as_slice(), first)
         }
         _ => Ok(List::new(alloc)),
     }
