@@ -199,3 +199,25 @@ bound_everywhere program marks all e p pattern body x at of below =
     let there : p.0 < length program.patterns = slice_get_within program.patterns p.0 pattern at in
     let count : length marks ≡ length program.patterns = zip_length program.patterns marks all in
     zip_none program.patterns marks all p.0 pattern at (none p.0 (omega arith) (omega (arith, there, count))) body x of below
+
+-- ---- as the check finds it
+
+pub order_of_paths : (program : Program) (rows : List (List Bool)) (order : List PatternId) → HasPaths program rows → order ≡ ranked_below (length rows + 1) (map rank rows) → IsCallOrder program order
+order_of_paths program rows order h is = subst (IsCallOrder program) (sym is) (IsCallOrder-paths program rows h)
+
+pub acyclic_of_paths : (program : Program) (rows : List (List Bool)) → HasPaths program rows → (p : PatternId) → IsRecursive program p → ⊥
+acyclic_of_paths program rows h p path = recursive_none program (subst (λ r. first_own r ≡ None) h.all h.none) p path
+
+pub refused_recursive : (program : Program) (rows : List (List Bool)) (p : PatternId) → rows ≡ closed (call_rows program.patterns) → first_own rows ≡ Some p → (meta : Metamodel) → CheckOf meta program (Some (Recursive, p))
+refused_recursive program rows p is e meta = recursive_first program p (subst (λ r. first_own r ≡ Some p) is e) meta
+
+pub found_all : (meta : Metamodel) (program : Program) (rows : List (List Bool)) (order : List PatternId) (known : List (List (List Kind))) (clashes marks : List Bool)
+    → HasPaths program rows → order ≡ ranked_below (length rows + 1) (map rank rows) → AreTold meta program known clashes → first_mark clashes ≡ None
+    → AreToldUnbound program.patterns marks → first_mark marks ≡ None → IsFound meta program order known
+found_all meta program rows order known clashes marks h is told none all free = record {
+  faultless = no_fault meta program known clashes marks (acyclic_of_paths program rows h) told none all free;
+  ordered = order_of_paths program rows order h is;
+  clashes = clashes;
+  told = told;
+  bound = bound_everywhere program marks all free;
+}
