@@ -28,7 +28,7 @@ use Rattle.vt_query.specs.declared.program.Program.{Program}
 use Rattle.vt_infer.specs.Inside.Found.{same_kind, is_among, kinds_at}
 use Rattle.vt_infer.specs.Inside.ExpressionFound.{expression_kinds}
 use Rattle.vt_infer.specs.Inside.Placing.{parameter_kinds, term_kinds, origin_kinds, target_of, placed, all_placed}
-use Rattle.vt_infer.specs.Inside.Clashing.{has_other, are_many, is_misplaced, is_misplaced_at, is_bad_column, has_bad_column, is_known, is_object, is_kindless, clashes_itself, clashes_at, clashes_in}
+use Rattle.vt_infer.specs.Inside.Clashing.{has_other, are_many, is_misplaced, is_misplaced_at, is_bad_column, has_bad_column, is_none, is_known, is_object, is_kindless, clashes_itself, clashes_at, clashes_in}
 use Rattle.vt_infer.specs.declared.places.Place.{Place}
 use Rattle.vt_infer.proofs.KindLemmas.{moved, Taken, some_in, any_in, same_kind-is, same_kind-itself, is_among-contains, contains-is_among}
 use Rattle.vt_infer.proofs.BodyLemmas.{TellsKinds}
@@ -111,19 +111,19 @@ row_there (r ∷ rows) zero k e = Contains-head r rows
 row_there (r ∷ rows) (suc i) k e = Contains-behind r (kinds_at rows i) rows (row_there rows i k e)
 
 -- whether it has none
-none_among : (kinds : List Kind) → (length kinds == 0) ≡ true → (k : Kind) → is_among k kinds ≡ true → ⊥
+none_among : (kinds : List Kind) → is_none kinds ≡ true → (k : Kind) → is_among k kinds ≡ true → ⊥
 none_among [] e k h = absurd (false≢true h)
 none_among (l ∷ kinds) e k h = absurd (false≢true e)
 
-among_none : (kinds : List Kind) → ((k : Kind) → is_among k kinds ≡ true → ⊥) → (length kinds == 0) ≡ true
+among_none : (kinds : List Kind) → ((k : Kind) → is_among k kinds ≡ true → ⊥) → is_none kinds ≡ true
 among_none [] never = refl
 among_none (l ∷ kinds) never = absurd (never l (or_left (same_kind l l) (is_among l kinds) (same_kind-itself l)))
 
-some_among : (kinds : List Kind) → not (length kinds == 0) ≡ true → (k : Kind) × (is_among k kinds ≡ true)
+some_among : (kinds : List Kind) → not (is_none kinds) ≡ true → (k : Kind) × (is_among k kinds ≡ true)
 some_among [] e = absurd (false≢true e)
 some_among (l ∷ kinds) e = (l, or_left (same_kind l l) (is_among l kinds) (same_kind-itself l))
 
-among_some : (kinds : List Kind) (k : Kind) → is_among k kinds ≡ true → not (length kinds == 0) ≡ true
+among_some : (kinds : List Kind) (k : Kind) → is_among k kinds ≡ true → not (is_none kinds) ≡ true
 among_some [] k e = absurd (false≢true e)
 among_some (l ∷ kinds) k e = refl
 
@@ -158,12 +158,12 @@ module _ (meta : Metamodel) (program : Program) (pattern : Pattern) (body : Body
   kindless_so : (c : Constraint) (e : Expr) (slots : List ℕ) → Contains body.constraints c → HasExpression c e slots
       → is_kindless kinds slots (expression_kinds kinds slots e) ≡ true → ClashesIn meta program pattern body
   kindless_so c e slots there has h =
-      let known_all : list_all (is_known kinds) slots ≡ true = and_left (list_all (is_known kinds) slots) (list_any (is_object kinds) slots || (length (expression_kinds kinds slots e) == 0)) h in
-      let either : (list_any (is_object kinds) slots || (length (expression_kinds kinds slots e) == 0)) ≡ true = and_right (list_all (is_known kinds) slots) (list_any (is_object kinds) slots || (length (expression_kinds kinds slots e) == 0)) h in
+      let known_all : list_all (is_known kinds) slots ≡ true = and_left (list_all (is_known kinds) slots) (list_any (is_object kinds) slots || is_none (expression_kinds kinds slots e)) h in
+      let either : (list_any (is_object kinds) slots || is_none (expression_kinds kinds slots e)) ≡ true = and_right (list_all (is_known kinds) slots) (list_any (is_object kinds) slots || is_none (expression_kinds kinds slots e)) h in
       let each : (x : ℕ) → Contains slots x → (k : Kind) × Gets meta program pattern body x k =
               λ x inside. let some = some_among (kinds_at kinds x) (all_at (is_known kinds) slots x known_all inside) in (some.0, tells.so x some.0 some.1) in
       let kindless : IsKindless meta program pattern body e slots =
-              elim (or_cases (list_any (is_object kinds) slots) (length (expression_kinds kinds slots e) == 0) either) [
+              elim (or_cases (list_any (is_object kinds) slots) (is_none (expression_kinds kinds slots e)) either) [
                 | inl objects ↦ let found = some_in (is_object kinds) slots objects in inl (found.0, found.1, tells.so found.0 kind.Obj found.2)
                 | inr empty ↦ inr (λ k gets. none_among (expression_kinds kinds slots e) empty k (result_all e slots k gets))
               ] in
@@ -173,12 +173,12 @@ module _ (meta : Metamodel) (program : Program) (pattern : Pattern) (body : Body
       → is_kindless kinds slots (expression_kinds kinds slots e) ≡ true
   kindless_has e slots each kindless =
       let all : list_all (is_known kinds) slots ≡ true = all_of (is_known kinds) slots (λ x inside. let some = each x inside in among_some (kinds_at kinds x) some.0 (tells.all x some.0 some.1)) in
-      let either : (list_any (is_object kinds) slots || (length (expression_kinds kinds slots e) == 0)) ≡ true =
+      let either : (list_any (is_object kinds) slots || is_none (expression_kinds kinds slots e)) ≡ true =
               elim kindless [
-                | inl object ↦ or_left (list_any (is_object kinds) slots) (length (expression_kinds kinds slots e) == 0) (any_in (is_object kinds) slots object.0 object.1 (tells.all object.0 kind.Obj object.2))
-                | inr none ↦ or_right (list_any (is_object kinds) slots) (length (expression_kinds kinds slots e) == 0) (among_none (expression_kinds kinds slots e) (λ k h. none k (result_so e slots k h)))
+                | inl object ↦ or_left (list_any (is_object kinds) slots) (is_none (expression_kinds kinds slots e)) (any_in (is_object kinds) slots object.0 object.1 (tells.all object.0 kind.Obj object.2))
+                | inr none ↦ or_right (list_any (is_object kinds) slots) (is_none (expression_kinds kinds slots e)) (among_none (expression_kinds kinds slots e) (λ k h. none k (result_so e slots k h)))
               ] in
-      ap (λ b. b && (list_any (is_object kinds) slots || (length (expression_kinds kinds slots e) == 0))) all ∙ either
+      ap (λ b. b && (list_any (is_object kinds) slots || is_none (expression_kinds kinds slots e))) all ∙ either
 
   -- ---- columns
 

@@ -2,7 +2,7 @@
 ghost use Rattle.std.specs.Prelude.{◌≡◌, IfOk};
 ghost use Rattle.std.specs.List.{list_any};
 ghost use Rattle.vt_query.specs.Kinds.{places};
-ghost use Rattle.vt_infer.specs.Inside.Clashing.{has_other, are_many, differ, is_misplaced, has_bad_column, is_known, is_object, is_kindless, clashes_itself, clashes_at, clashes_in};
+ghost use Rattle.vt_infer.specs.Inside.Clashing.{has_other, are_many, differ, is_misplaced, has_bad_column, is_none, is_known, is_object, is_kindless, clashes_itself, clashes_at, clashes_in};
 
 use crate::expression::expression_kinds;
 use crate::found::{is_among, kinds_at, same_kind};
@@ -58,10 +58,20 @@ fn has_bad_column(known: &[List<List<Kind>>], p: PatternId, args: &[Arg]) -> boo
     false
 }
 
+// Whether there is no kind.
+fn is_none(kinds: &[Kind]) -> bool
+    ensures { result ≡ is_none kinds.now }
+{
+    match kinds {
+        [] => true,
+        [_, ..] => false,
+    }
+}
+
 fn is_known(kinds: &[List<Kind>], x: u16) -> bool
     ensures { result ≡ is_known kinds.now x }
 {
-    !kinds_at(kinds, usize::from(x)).is_empty()
+    !is_none(kinds_at(kinds, usize::from(x)))
 }
 
 fn is_object(kinds: &[List<Kind>], x: u16) -> bool
@@ -76,7 +86,7 @@ fn is_kindless(kinds: &[List<Kind>], slots: &[u16], of: &[Kind]) -> bool
     ensures { result ≡ is_kindless kinds.now slots.now of.now }
 {
     slots.iter().all(|x| is_known(kinds, *x))
-        && (slots.iter().any(|x| is_object(kinds, *x)) || of.is_empty())
+        && (slots.iter().any(|x| is_object(kinds, *x)) || is_none(of))
 }
 
 // Whether a constraint clashes beside its places.

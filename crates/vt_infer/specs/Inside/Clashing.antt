@@ -47,15 +47,20 @@ abbrev pub has_bad_column : List (List (List Kind)) → ℕ → ℕ → List Arg
 has_bad_column known p j [] = false
 has_bad_column known p j (a ∷ args) = is_bad_column known p j a || has_bad_column known p (j + 1) args
 
+-- there is no kind
+abbrev pub is_none : List Kind → Bool
+is_none [] = true
+is_none (k ∷ kinds) = false
+
 -- all variables of an expression have kinds, and one is an object or the expression has no kind
 abbrev pub is_known : List (List Kind) → ℕ → Bool
-is_known kinds x = not (length (kinds_at kinds x) == 0)
+is_known kinds x = not (is_none (kinds_at kinds x))
 
 abbrev pub is_object : List (List Kind) → ℕ → Bool
 is_object kinds x = is_among kind.Obj (kinds_at kinds x)
 
 abbrev pub is_kindless : List (List Kind) → List ℕ → List Kind → Bool
-is_kindless kinds slots of = list_all (is_known kinds) slots && (list_any (is_object kinds) slots || length of == 0)
+is_kindless kinds slots of = list_all (is_known kinds) slots && (list_any (is_object kinds) slots || is_none of)
 
 -- what the kind of constraint asks for beside its places
 abbrev pub clashes_itself : List (List (List Kind)) → List (List Kind) → Constraint → Bool
