@@ -1,5 +1,5 @@
 // Which patterns call which, directly or through others: a row of marks for each.
-ghost use Rattle.std.specs.Prelude.{◌≡◌, length, replicate, OnOk, IfOk};
+ghost use Rattle.std.specs.Prelude.{◌≡◌, false, length, replicate, OnOk, IfOk};
 ghost use Rattle.vt_query.specs.Calls.{called};
 ghost use Rattle.vt_infer.specs.Inside.CallTable.{is_marked, row_at, with_call, with_calls, with_bodies, call_row, call_rows, either_row, row_through, rows_through, closed};
 

@@ -1,5 +1,5 @@
 // The kinds of the parameters of all patterns, and which patterns have kinds that clash.
-ghost use Rattle.std.specs.Prelude.{◌≡◌, ◌<◌, length, replicate, map, OnOk, IfOk};
+ghost use Rattle.std.specs.Prelude.{◌≡◌, ◌<◌, [], false, length, replicate, map, OnOk, IfOk};
 ghost use Rattle.vt_query.specs.Checking.{IsCallOrder};
 ghost use Rattle.vt_infer.specs.Inside.Patterns.{AreTables, with_table, with_tables, merged, any_body_clashes, pattern_clashes, IsToldOne, AreTold, first_kinds, all_first_kinds};
 
