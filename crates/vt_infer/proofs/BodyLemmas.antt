@@ -143,8 +143,8 @@ module _ (meta : Metamodel) (program : Program) (pattern : Pattern) (body : Body
       all_given-sound kinds old c there ps (λ t origin later. inside t origin (Contains-behind p (t, origin) ps later)) one
       (length-Adds f one (Adds-given f (target_of p.0) (origin_kinds known kinds p.1)) ∙ count)
       (given-sound f p.0 (origin_kinds known kinds p.1) count sound
-          (λ x k is below among. placed pattern body x c p.1 k below there (subst (λ t. Contains (places meta c) (t, p.1)) is at)
-              (origin_so kinds old p.1 (IsPlaced-place c p.0 p.1 there at) k among)))
+      (λ x k is below among. placed pattern body x c p.1 k below there (subst (λ t. Contains (places meta c) (t, p.1)) is at)
+      (origin_so kinds old p.1 (IsPlaced-place c p.0 p.1 there at) k among)))
 
   round-sound : (constraints : List Constraint) → ((c : Constraint) → Contains constraints c → Contains body.constraints c)
       → (f : Found) → length f.kinds ≡ body.vars → Sound f.kinds → Sound (round meta known f constraints).kinds
@@ -290,16 +290,16 @@ TellsKinds-all meta program pattern body of known knows kinds a =
     let rows : length start.kinds ≡ body.vars = length-Adds (nothing body.vars) start (Adds-with_types (nothing body.vars) 0 pattern.params) ∙ length-replicate body.vars [] in
     let count : length kinds ≡ body.vars = ap (λ (g : Found). length g.kinds) a.reached ∙ length-Adds start last (Adds-rounds meta known body.constraints a.n start) ∙ rows in
     let sound : Sound meta program pattern body of known knows kinds = subst (λ g. Sound meta program pattern body of known knows g.kinds) (sym a.reached)
-            (rounds-sound meta program pattern body of known knows a.n start rows
-                (with_types-sound meta program pattern body of known knows pattern.params 0 (nothing body.vars) (λ x p at. moved (λ n. slice_get pattern.params n ≡ Some p) x (0 + x) (omega arith) at)
-                    (length-replicate body.vars []) (nothing-sound meta program pattern body of known knows))) in
+    (rounds-sound meta program pattern body of known knows a.n start rows
+    (with_types-sound meta program pattern body of known knows pattern.params 0 (nothing body.vars) (λ x p at. moved (λ n. slice_get pattern.params n ≡ Some p) x (0 + x) (omega arith) at)
+    (length-replicate body.vars []) (nothing-sound meta program pattern body of known knows))) in
     let still : (round meta known f body.constraints).count ≤ f.count = omega (arith, ap (λ (g : Found). g.count) a.still) in
     let closed : Closed meta program pattern body of known knows kinds = λ c x origin k there place below among.
-            round-closed meta program pattern body of known knows body.constraints f still c x origin k there place (subst (λ n. x < n) (sym count) below) among in
+    round-closed meta program pattern body of known knows body.constraints f still c x origin k there place (subst (λ n. x < n) (sym count) below) among in
     let types : (x : ℕ) (p : Param) (type : Ty) → x < body.vars → slice_get pattern.params x ≡ Some p → p.ty ≡ Some type → Taken kinds x (type_kind type) =
-            λ x p type below at is. subst (λ g. Taken g.kinds x (type_kind type)) (sym a.reached)
-                (Taken-Adds start last (Adds-rounds meta known body.constraints a.n start) x (type_kind type)
-                    (moved (λ n. Taken start.kinds n (type_kind type)) (0 + x) x (omega arith) (with_types-has pattern.params 0 (nothing body.vars) x p type (omega (arith, length-replicate body.vars [])) at is))) in
+    λ x p type below at is. subst (λ g. Taken g.kinds x (type_kind type)) (sym a.reached)
+    (Taken-Adds start last (Adds-rounds meta known body.constraints a.n start) x (type_kind type)
+    (moved (λ n. Taken start.kinds n (type_kind type)) (0 + x) x (omega arith) (with_types-has pattern.params 0 (nothing body.vars) x p type (omega (arith, length-replicate body.vars [])) at is))) in
     record {
       count = count;
       so = sound;

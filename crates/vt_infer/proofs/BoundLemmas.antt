@@ -214,7 +214,7 @@ module _ (body : Body) where
       ]
 
   pub bound_all : (marks : List Bool) → ((c : Constraint) (rule : Binds) → Contains body.constraints c → Contains (bindings c) rule
-          → ((y : ℕ) → Contains rule.once y → has_mark marks y ≡ true) → (x : ℕ) → Contains rule.variables x → x < body.vars → has_mark marks x ≡ true)
+      → ((y : ℕ) → Contains rule.once y → has_mark marks y ≡ true) → (x : ℕ) → Contains rule.variables x → x < body.vars → has_mark marks x ≡ true)
       → (x : ℕ) → IsBound body x → has_mark marks x ≡ true
   bound_all marks closed _ (bound x c rule below there of inside once) = closed c rule there of (λ y o. bound_all marks closed y (once y o)) x inside below
 

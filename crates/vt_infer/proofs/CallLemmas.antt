@@ -76,9 +76,9 @@ with_calls-so row [] q e = inl e
 with_calls-so row (c ∷ cs) q e =
     elim (with_calls-so (with_call row (called c)) cs q e) [
       | inl first ↦ elim (with_call-so row (called c) q first) [
-          | inl old ↦ inl old
-          | inr is ↦ inr (record { constraint = c; there = Contains-head c cs; calls = is })
-        ]
+        | inl old ↦ inl old
+        | inr is ↦ inr (record { constraint = c; there = Contains-head c cs; calls = is })
+      ]
       | inr later ↦ inr (record { constraint = later.constraint; there = Contains-behind c later.constraint cs later.there; calls = later.calls })
     ]
 
@@ -108,9 +108,9 @@ with_bodies-so row [] q e = inl e
 with_bodies-so row (b ∷ bodies) q e =
     elim (with_bodies-so (with_calls row b.constraints) bodies q e) [
       | inl first ↦ elim (with_calls-so row b.constraints q first) [
-          | inl old ↦ inl old
-          | inr call ↦ inr (record { body = b; of = Contains-head b bodies; call = call })
-        ]
+        | inl old ↦ inl old
+        | inr call ↦ inr (record { body = b; of = Contains-head b bodies; call = call })
+      ]
       | inr later ↦ inr (record { body = later.body; of = Contains-behind b later.body bodies later.of; call = later.call })
     ]
 
@@ -230,13 +230,13 @@ module _ (n : ℕ) where
               let in_n : i < n = omega arith in
               elim (through_so k rows p i first) [
                 | inl one ↦ elim (through_so k rows i q second) [
-                    | inl three ↦ inl (c.closed i p q smaller from to one three)
-                    | inr four ↦ inr (c.closed i p k smaller from below one four.0, four.1)
-                  ]
+                  | inl three ↦ inl (c.closed i p q smaller from to one three)
+                  | inr four ↦ inr (c.closed i p k smaller from below one four.0, four.1)
+                ]
                 | inr two ↦ elim (through_so k rows i q second) [
-                    | inl three ↦ inr (two.0, c.closed i k q smaller below to two.1 three)
-                    | inr four ↦ inr (two.0, four.1)
-                  ]
+                  | inl three ↦ inr (two.0, c.closed i k q smaller below to two.1 three)
+                  | inr four ↦ inr (two.0, four.1)
+                ]
               ]
         ]);
   }
@@ -323,7 +323,7 @@ paths_all program _ _ (through p q r calls path) below =
     let middle : q.0 < n = Leads-there program q r path in
     let c = closed_all n n (call_rows program.patterns) (omega arith) (AreWide-calls program) in
     let first : Marks (closed_below n (call_rows program.patterns)) p.0 q.0 =
-            closed_keeps n n (call_rows program.patterns) (omega arith) (AreWide-calls program) p.0 q.0 (Calls-there program p q calls) middle (call_rows-has program p.0 q.0 calls middle) in
+    closed_keeps n n (call_rows program.patterns) (omega arith) (AreWide-calls program) p.0 q.0 (Calls-there program p q calls) middle (call_rows-has program p.0 q.0 calls middle) in
     let second : Marks (closed_below n (call_rows program.patterns)) q.0 r.0 = subst (λ rows. Marks rows q.0 r.0) (closed-is program) (paths_all program q r path below) in
     subst (λ rows. Marks rows p.0 r.0) (sym (closed-is program)) (c.closed q.0 p.0 r.0 middle (Calls-there program p q calls) below first second)
 

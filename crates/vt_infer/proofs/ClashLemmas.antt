@@ -70,7 +70,8 @@ are_many-so [] e = absurd (false≢true e)
 are_many-so (k ∷ kinds) e =
     let o = has_other-so k kinds e in
     record {
-      k = k; l = o.other;
+      k = k;
+      l = o.other;
       first = or_left (same_kind k k) (is_among k kinds) (same_kind-itself k);
       second = or_right (same_kind o.other k) (is_among o.other kinds) o.there;
       apart = o.differs;
@@ -143,10 +144,9 @@ all_of p (y ∷ xs) each = ap (λ b. b && list_all p xs) (each y (Contains-head 
 module _ (meta : Metamodel) (program : Program) (pattern : Pattern) (body : Body) (known : List (List (List Kind))) (kinds : List (List Kind))
     (tells : TellsKinds meta program pattern body known kinds)
     (columns_so : (k : AggKind) (t : Term) (p : PatternId) (args : List Arg) (j : ℕ) (l : Kind) → Contains body.constraints (Agg k t p args)
-        → is_among l (parameter_kinds known p.0 j) ≡ true → Has meta program pattern body (Parameter p j) l)
+    → is_among l (parameter_kinds known p.0 j) ≡ true → Has meta program pattern body (Parameter p j) l)
     (columns_all : (k : AggKind) (t : Term) (p : PatternId) (args : List Arg) (j : ℕ) (l : Kind) → Contains body.constraints (Agg k t p args)
-        → Has meta program pattern body (Parameter p j) l → is_among l (parameter_kinds known p.0 j) ≡ true) where
-
+    → Has meta program pattern body (Parameter p j) l → is_among l (parameter_kinds known p.0 j) ≡ true) where
   -- ---- expressions
 
   result_so : (e : Expr) (slots : List ℕ) (k : Kind) → is_among k (expression_kinds kinds slots e) ≡ true → Has meta program pattern body (Result e slots) k
@@ -161,12 +161,12 @@ module _ (meta : Metamodel) (program : Program) (pattern : Pattern) (body : Body
       let known_all : list_all (is_known kinds) slots ≡ true = and_left (list_all (is_known kinds) slots) (list_any (is_object kinds) slots || is_none (expression_kinds kinds slots e)) h in
       let either : (list_any (is_object kinds) slots || is_none (expression_kinds kinds slots e)) ≡ true = and_right (list_all (is_known kinds) slots) (list_any (is_object kinds) slots || is_none (expression_kinds kinds slots e)) h in
       let each : (x : ℕ) → Contains slots x → (k : Kind) × Gets meta program pattern body x k =
-              λ x inside. let some = some_among (kinds_at kinds x) (all_at (is_known kinds) slots x known_all inside) in (some.0, tells.so x some.0 some.1) in
+      λ x inside. let some = some_among (kinds_at kinds x) (all_at (is_known kinds) slots x known_all inside) in (some.0, tells.so x some.0 some.1) in
       let kindless : IsKindless meta program pattern body e slots =
-              elim (or_cases (list_any (is_object kinds) slots) (is_none (expression_kinds kinds slots e)) either) [
-                | inl objects ↦ let found = some_in (is_object kinds) slots objects in inl (found.0, found.1, tells.so found.0 kind.Obj found.2)
-                | inr empty ↦ inr (λ k gets. none_among (expression_kinds kinds slots e) empty k (result_all e slots k gets))
-              ] in
+      elim (or_cases (list_any (is_object kinds) slots) (is_none (expression_kinds kinds slots e)) either) [
+        | inl objects ↦ let found = some_in (is_object kinds) slots objects in inl (found.0, found.1, tells.so found.0 kind.Obj found.2)
+        | inr empty ↦ inr (λ k gets. none_among (expression_kinds kinds slots e) empty k (result_all e slots k gets))
+      ] in
       expression c e slots there has each kindless
 
   kindless_has : (e : Expr) (slots : List ℕ) → ((x : ℕ) → Contains slots x → (k : Kind) × Gets meta program pattern body x k) → IsKindless meta program pattern body e slots
@@ -174,10 +174,10 @@ module _ (meta : Metamodel) (program : Program) (pattern : Pattern) (body : Body
   kindless_has e slots each kindless =
       let all : list_all (is_known kinds) slots ≡ true = all_of (is_known kinds) slots (λ x inside. let some = each x inside in among_some (kinds_at kinds x) some.0 (tells.all x some.0 some.1)) in
       let either : (list_any (is_object kinds) slots || is_none (expression_kinds kinds slots e)) ≡ true =
-              elim kindless [
-                | inl object ↦ or_left (list_any (is_object kinds) slots) (is_none (expression_kinds kinds slots e)) (any_in (is_object kinds) slots object.0 object.1 (tells.all object.0 kind.Obj object.2))
-                | inr none ↦ or_right (list_any (is_object kinds) slots) (is_none (expression_kinds kinds slots e)) (among_none (expression_kinds kinds slots e) (λ k h. none k (result_so e slots k h)))
-              ] in
+      elim kindless [
+        | inl object ↦ or_left (list_any (is_object kinds) slots) (is_none (expression_kinds kinds slots e)) (any_in (is_object kinds) slots object.0 object.1 (tells.all object.0 kind.Obj object.2))
+        | inr none ↦ or_right (list_any (is_object kinds) slots) (is_none (expression_kinds kinds slots e)) (among_none (expression_kinds kinds slots e) (λ k h. none k (result_so e slots k h)))
+      ] in
       ap (λ b. b && (list_any (is_object kinds) slots || is_none (expression_kinds kinds slots e))) all ∙ either
 
   -- ---- columns
@@ -300,8 +300,8 @@ module _ (meta : Metamodel) (program : Program) (pattern : Pattern) (body : Body
       let wrong : is_misplaced (placed known kinds (Const v, origin)) ≡ true = has_other-has (kind_of v) k (origin_kinds known kinds origin) (tells.place_all c (Const v) origin k there place has) other in
       or_right (list_any are_many kinds) (list_any (clashes_at meta known kinds) body.constraints)
       (any_in (clashes_at meta known kinds) body.constraints c there
-          (or_left (list_any is_misplaced (all_placed known kinds (places meta c))) (clashes_itself known kinds c)
-              (any_in is_misplaced (all_placed known kinds (places meta c)) (placed known kinds (Const v, origin)) (Contains-map (placed known kinds) (places meta c) (Const v, origin) place) wrong)))
+      (or_left (list_any is_misplaced (all_placed known kinds (places meta c))) (clashes_itself known kinds c)
+      (any_in is_misplaced (all_placed known kinds (places meta c)) (placed known kinds (Const v, origin)) (Contains-map (placed known kinds) (places meta c) (Const v, origin) place) wrong)))
   clashes_has (differ s t k l there first second other) =
       constraint_clashes (Differ s t) there
       (any_in (λ m. has_other m (term_kinds kinds t)) (term_kinds kinds s) k (contains-is_among k (term_kinds kinds s) (term_all s k first)) (has_other-has k l (term_kinds kinds t) (term_all t l second) other))
@@ -312,4 +312,4 @@ module _ (meta : Metamodel) (program : Program) (pattern : Pattern) (body : Body
   clashes_has (check e slots k there has other) =
       constraint_clashes (Check e slots) there
       (or_right (is_kindless kinds slots (expression_kinds kinds slots e)) (has_other kind.Bool (expression_kinds kinds slots e))
-          (has_other-has kind.Bool k (expression_kinds kinds slots e) (result_all e slots k has) (λ same. other (sym same))))
+      (has_other-has kind.Bool k (expression_kinds kinds slots e) (result_all e slots k has) (λ same. other (sym same))))

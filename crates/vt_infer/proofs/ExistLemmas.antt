@@ -51,7 +51,7 @@ argument_place p i (u ∷ args) zero t at =
     let e : i ≡ i + 0 = omega arith in
     subst (λ n. Contains {X = Term × Origin} ((u, Parameter p i) ∷ argument_places p (i + 1) args) (t, Parameter p n)) e
     (subst (λ v. Contains {X = Term × Origin} ((u, Parameter p i) ∷ argument_places p (i + 1) args) (v, Parameter p i)) (same_Some u t at)
-        (Contains-head {X = Term × Origin} (u, Parameter p i) (argument_places p (i + 1) args)))
+    (Contains-head {X = Term × Origin} (u, Parameter p i) (argument_places p (i + 1) args)))
 argument_place p i (u ∷ args) (suc j) t at =
     Contains-behind {X = Term × Origin} (u, Parameter p i) (t, Parameter p (i + suc j)) (argument_places p (i + 1) args)
     (moved (λ n. Contains {X = Term × Origin} (argument_places p (i + 1) args) (t, Parameter p n)) ((i + 1) + j) (i + suc j) (omega arith) (argument_place p (i + 1) args j t at))
@@ -78,7 +78,6 @@ module _ (meta : Metamodel) (program : Program) (pattern : Pattern) (body : Body
     (decided : (e : Expr) (slots : List ℕ) → ((k : KindOf) × Has meta program pattern body (Result e slots) k) ⊎ ((k : KindOf) → Has meta program pattern body (Result e slots) k → ⊥))
     (formed : All (IsFormed meta program body.vars) body.constraints)
     (called : (c : Constraint) (q : PatternId) (args : List Term) (j : ℕ) → Contains body.constraints (Find q args) → j < length args → (k : KindOf) × Has meta program pattern body (Parameter q j) k) where
-
   -- at a place whose origin gives a kind
   at_place : (x : ℕ) (c : Constraint) (t : Term) (origin : Origin) (k : KindOf) → x < body.vars → Contains body.constraints c → Contains (places meta c) (t, origin) → t ≡ Var x
       → Has meta program pattern body origin k → SomeKind meta program pattern body x
@@ -115,7 +114,7 @@ module _ (meta : Metamodel) (program : Program) (pattern : Pattern) (body : Body
             (Contains-head {X = Term × Origin} (from, Fixed kind.Obj) (value_place (attribute_kind meta a.0) to)) (term_is from x source) (fixed pattern body kind.Obj)
         | inr value ↦ at_place x (Attr cl a from to) to (Fixed kind_is.0) kind_is.0 below there
             (Contains-behind {X = Term × Origin} (from, Fixed kind.Obj) (to, Fixed kind_is.0) (value_place (attribute_kind meta a.0) to)
-                (subst (λ o. Contains {X = Term × Origin} (value_place o to) (to, Fixed kind_is.0)) (sym kind_is.1) (Contains-head {X = Term × Origin} (to, Fixed kind_is.0) [])))
+            (subst (λ o. Contains {X = Term × Origin} (value_place o to) (to, Fixed kind_is.0)) (sym kind_is.1) (Contains-head {X = Term × Origin} (to, Fixed kind_is.0) [])))
             (term_is to x value) (fixed pattern body kind_is.0)
       ]
   by_rule x (Ref cl r from to) binds f below there rule inside once =

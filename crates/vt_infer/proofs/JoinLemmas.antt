@@ -71,17 +71,17 @@ IsCallOrder-paths program rows h =
     let wide : AreWide n rows = subst (AreWide n) (sym h.all) (AreWide-paths program) in
     let none : first_own (paths program) ≡ None = subst (λ r. first_own r ≡ None) h.all h.none in
     let off : (p : ℕ) → p < n → is_marked (row_at rows p) p ≡ false =
-            λ p below. let f : NoneAt (λ j. is_marked (row_at rows j) j) 0 (length rows) = subst (λ o. Finds (λ j. is_marked (row_at rows j) j) 0 (length rows) o) h.none (first_own-finds rows) in
-                f p (omega arith) (omega (arith, wide.count, below)) in
+    λ p below. let f : NoneAt (λ j. is_marked (row_at rows j) j) 0 (length rows) = subst (λ o. Finds (λ j. is_marked (row_at rows j) j) 0 (length rows) o) h.none (first_own-finds rows) in
+    f p (omega arith) (omega (arith, wide.count, below)) in
     let closed_rows : IsClosedBelow n n rows = subst (IsClosedBelow n n) (sym (h.all ∙ closed-is program)) (closed_all n n (call_rows program.patterns) (omega arith) (AreWide-calls program)) in
     let ranks : List ℕ = map rank rows in
     let rank_at : (p : ℕ) → p < n → slice_get ranks p ≡ Some (rank (row_at rows p)) =
-            λ p below. slice_get-map rank rows p ∙ ap (option_map rank) (row_at-get rows p (omega (arith, wide.count, below))) in
+    λ p below. slice_get-map rank rows p ∙ ap (option_map rank) (row_at-get rows p (omega (arith, wide.count, below))) in
     let few : (s : ℕ) → Contains ranks s → s < length rows + 1 = λ s there.
-            let found = Contains-from_map rank rows s there in
-            let row : row_at rows found.1.0 ≡ found.0 = row_at-here rows found.1.0 found.0 found.1.1 found.1.2 in
-            let width : length found.0 ≡ n = ap length (sym row) ∙ wide.wide found.1.0 (omega (arith, wide.count, found.1.1)) in
-            omega (arith, found.2, width, wide.count, count_by-le-length (λ b. b) found.0) in
+    let found = Contains-from_map rank rows s there in
+    let row : row_at rows found.1.0 ≡ found.0 = row_at-here rows found.1.0 found.0 found.1.1 found.1.2 in
+    let width : length found.0 ≡ n = ap length (sym row) ∙ wide.wide found.1.0 (omega (arith, wide.count, found.1.1)) in
+    omega (arith, found.2, width, wide.count, count_by-le-length (λ b. b) found.0) in
     record {
       count = length-ranked_below (length rows + 1) ranks ∙ below_all (length rows + 1) ranks few ∙ length-map rows rank ∙ wide.count;
       each = λ p below.
@@ -93,8 +93,8 @@ IsCallOrder-paths program rows h =
           let marked : Marks rows p.0 q.0 = subst (λ r. Marks r p.0 q.0) (sym h.all) (paths_all program p q (directly p q calls) below) in
           ranked_below-after (length rows + 1) ranks i p q (rank (row_at rows q.0)) at (rank_at q.0 below)
           (λ t is.
-              let same : rank (row_at rows p.0) ≡ t = same_Some (rank (row_at rows p.0)) t (sym (rank_at p.0 from) ∙ is) in
-              omega (arith, same, rank_falls n rows closed_rows off p.0 q.0 from below marked));
+          let same : rank (row_at rows p.0) ≡ t = same_Some (rank (row_at rows p.0)) t (sym (rank_at p.0 from) ∙ is) in
+          omega (arith, same, rank_falls n rows closed_rows off p.0 q.0 from below marked));
     }
 
 -- ---- clashes and unbound variables

@@ -166,9 +166,16 @@ module _ (kinds : List (List Kind)) (slots : List ℕ) where
     chain_can_have (more_of-Operand operator e rest) first k h =
         let so = chain_can_have rest (applied_kinds operator first (expression_kinds kinds slots e)) k h in
         let is = only_if-so (are_taken operator first (expression_kinds kinds slots e)) so.0 (given_kind operator) so.1 in
-        let suited = are_taken-so operator first (expression_kinds kinds slots e) is.0 in
-        (suited.k, suited.left, (suited.l, can_have e suited.l suited.right, suited.takes,
-            subst (λ a. GoesOnToKind (slot_gets slots (Taken kinds)) a rest k) is.1 so.2))
+        let suited = are_taken-so operator first (expression_kinds kinds slots e) is.0 in (
+          suited.k,
+          suited.left,
+          (
+            suited.l,
+            can_have e suited.l suited.right,
+            suited.takes,
+            subst (λ a. GoesOnToKind (slot_gets slots (Taken kinds)) a rest k) is.1 so.2,
+          ),
+        )
 
     pub box_can_have : {m : _} (a : Row_of-Expr m) (k : Kind) → is_among k (boxed_kinds kinds slots a) ≡ true → BoxCanHaveKind (slot_gets slots (Taken kinds)) a k
     box_can_have end_of-Expr k h = absurd (false≢true h)
@@ -197,7 +204,7 @@ module _ (kinds : List (List Kind)) (slots : List ℕ) (gets : ℕ → Kind → 
     chain_is_found (more_of-Operand operator e rest) first a k there h =
         chain_is_found rest (applied_kinds operator first (expression_kinds kinds slots e)) (given_kind operator) k
         (only_if-has (are_taken operator first (expression_kinds kinds slots e)) (given_kind operator) (given_kind operator)
-            (are_taken-have operator a h.0 first (expression_kinds kinds slots e) h.2 there (is_found e h.0 h.1)) refl)
+        (are_taken-have operator a h.0 first (expression_kinds kinds slots e) h.2 there (is_found e h.0 h.1)) refl)
         h.3
 
     pub box_is_found : {m : _} (a : Row_of-Expr m) (k : Kind) → BoxCanHaveKind (slot_gets slots gets) a k → is_among k (boxed_kinds kinds slots a) ≡ true

@@ -63,9 +63,9 @@ with_kinds-so f x [] y l h = inl h
 with_kinds-so f x (k ∷ kinds) y l h =
     elim (with_kinds-so (with_kind f x k) x kinds y l h) [
       | inl first ↦ elim (Taken-with_kind f x k y l first) [
-          | inl old ↦ inl old
-          | inr new ↦ inr (record { variable = new.variable; among = or_left (same_kind l k) (is_among l kinds) (subst (λ m. same_kind l m ≡ true) new.kind (same_kind-itself l)); there = new.there })
-        ]
+        | inl old ↦ inl old
+        | inr new ↦ inr (record { variable = new.variable; among = or_left (same_kind l k) (is_among l kinds) (subst (λ m. same_kind l m ≡ true) new.kind (same_kind-itself l)); there = new.there })
+      ]
       | inr later ↦ inr (record { variable = later.variable; among = or_right (same_kind l k) (is_among l kinds) later.among; there = subst (λ n. x < n) (length-Adds f (with_kind f x k) (Adds-with_kinds f x (k ∷ []))) later.there })
     ]
 
@@ -90,9 +90,9 @@ with_table-so f j [] y l h = inl h
 with_table-so f j (row ∷ rows) y l h =
     elim (with_table-so (with_kinds f j row) (j + 1) rows y l h) [
       | inl first ↦ elim (with_kinds-so f j row y l first) [
-          | inl old ↦ inl old
-          | inr new ↦ inr (record { i = 0; is = omega (arith, new.variable); taken = new.among; there = omega (arith, new.variable, new.there) })
-        ]
+        | inl old ↦ inl old
+        | inr new ↦ inr (record { i = 0; is = omega (arith, new.variable); taken = new.among; there = omega (arith, new.variable, new.there) })
+      ]
       | inr later ↦ inr (record { i = suc later.i; is = omega (arith, later.is); taken = later.taken; there = subst (λ n. y < n) (length-Adds f (with_kinds f j row) (Adds-with_kinds f j row)) later.there })
     ]
 
@@ -124,9 +124,9 @@ with_tables-so f [] y l h = inl h
 with_tables-so f (t ∷ tables) y l h =
     elim (with_tables-so (with_table f 0 t) tables y l h) [
       | inl first ↦ elim (with_table-so f 0 t y l first) [
-          | inl old ↦ inl old
-          | inr new ↦ let e : new.i ≡ y = omega (arith, new.is) in inr (record { table = t; of = Contains-head t tables; taken = subst (λ n. Taken t n l) e new.taken; there = new.there })
-        ]
+        | inl old ↦ inl old
+        | inr new ↦ let e : new.i ≡ y = omega (arith, new.is) in inr (record { table = t; of = Contains-head t tables; taken = subst (λ n. Taken t n l) e new.taken; there = new.there })
+      ]
       | inr later ↦ inr (record { table = later.table; of = Contains-behind t later.table tables later.of; taken = later.taken; there = subst (λ n. y < n) (length-Adds f (with_table f 0 t) (Adds-with_table f 0 t)) later.there })
     ]
 
@@ -160,7 +160,6 @@ length-merged n tables = length-Adds (nothing n) (with_tables (nothing n) tables
 module _ (meta : Metamodel) (program : Program) (p : PatternId) (pattern : Pattern) (at : slice_get program.patterns p.0 ≡ Some pattern)
     (known : List (List (List Kind))) (knows : KnowsCalled meta program pattern known)
     (tables : List (List (List Kind))) (are : AreTables meta known pattern pattern.bodies tables) where
-
   tells : (body : Body) (table : List (List Kind)) → Contains pattern.bodies body → IsAllOf meta known pattern body table → TellsKinds meta program pattern body known table
   tells body table of all = TellsKinds-all meta program pattern body of known knows table all
 
@@ -225,7 +224,8 @@ module _ (meta : Metamodel) (program : Program) (p : PatternId) (pattern : Patte
       let found = merged-so (length pattern.params) tables j k h in
       let body = zip_right (IsAllOf meta known pattern) pattern.bodies tables found.table are found.of in
       record {
-        body = body.0; of = body.1;
+        body = body.0;
+        of = body.1;
         below = subst (λ n. j < n) (length-replicate (length pattern.params) []) found.there;
         gets = (tells body.0 found.table body.1 body.2).so j k found.taken;
       }

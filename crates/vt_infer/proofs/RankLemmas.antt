@@ -146,11 +146,11 @@ length-ranked_from r i (s ∷ ranks) =
       | inl less ↦ step_less (below_in r ranks) (below_in (suc r) ranks) (id i) (ranked_from r (i + 1) ranks) (nat_lt s r) (nat_lt s (suc r)) (nat_eq s r) rest
           (lt-ltb s r less) (lt-ltb s (suc r) (omega arith)) (ne_eqb s r (λ e. absurd (omega arith)))
       | inr from ↦ elim (cases_eq s r) [
-          | inl same ↦ step_same (below_in r ranks) (below_in (suc r) ranks) (id i) (ranked_from r (i + 1) ranks) (nat_lt s r) (nat_lt s (suc r)) (nat_eq s r) rest
-              (le-ltb s r from) (lt-ltb s (suc r) (omega arith)) (eq-eqb s r same)
-          | inr other ↦ step_more (below_in r ranks) (below_in (suc r) ranks) (id i) (ranked_from r (i + 1) ranks) (nat_lt s r) (nat_lt s (suc r)) (nat_eq s r) rest
-              (le-ltb s r from) (le-ltb s (suc r) (omega arith)) (ne_eqb s r other)
-        ]
+        | inl same ↦ step_same (below_in r ranks) (below_in (suc r) ranks) (id i) (ranked_from r (i + 1) ranks) (nat_lt s r) (nat_lt s (suc r)) (nat_eq s r) rest
+            (le-ltb s r from) (lt-ltb s (suc r) (omega arith)) (eq-eqb s r same)
+        | inr other ↦ step_more (below_in r ranks) (below_in (suc r) ranks) (id i) (ranked_from r (i + 1) ranks) (nat_lt s r) (nat_lt s (suc r)) (nat_eq s r) rest
+            (le-ltb s r from) (le-ltb s (suc r) (omega arith)) (ne_eqb s r other)
+      ]
     ]
 
 -- all ranks are below a number above them

@@ -92,7 +92,7 @@ module _ (meta : Metamodel) (program : Program) (order : List PatternId) (ordere
       let below : p.0 < length program.patterns = slice_get_within program.patterns p.0 pattern at in
       let row : unwrap_or (slice_get (slice_set known p.0 rows) p.0) [] ≡ rows = item_same known p.0 rows [] (subst (λ n. p.0 < n) (sym count) below) in
       let flag : unwrap_or (slice_get (slice_set clashes p.0 (pattern_clashes meta known pattern tables)) p.0) false ≡ pattern_clashes meta known pattern tables =
-              item_same clashes p.0 (pattern_clashes meta known pattern tables) false (subst (λ n. p.0 < n) (sym flags) below) in
+      item_same clashes p.0 (pattern_clashes meta known pattern tables) false (subst (λ n. p.0 < n) (sym flags) below) in
       record {
         count = ap length row ∙ length-merged (length pattern.params) tables;
         kinds = λ within body j k. subst (λ r. (is_among k (kinds_at r j) ≡ true) ↔ Has meta program within body (Parameter p j) k) (sym row)
@@ -111,7 +111,7 @@ module _ (meta : Metamodel) (program : Program) (order : List PatternId) (ordere
       let rows = merged (length pattern.params) tables in
       let clash = pattern_clashes meta known pattern tables in
       let new : IsTold meta program (slice_set known p.0 rows) (slice_set clashes p.0 clash) p pattern =
-              new_told known clashes p pattern at t.count t.flags (knows i known clashes t p pattern here at) tables are in
+      new_told known clashes p pattern at t.count t.flags (knows i known clashes t p pattern here at) tables are in
       record {
         count = length-set known p.0 rows ∙ t.count;
         flags = length-set clashes p.0 clash ∙ t.flags;

@@ -125,11 +125,7 @@ fn row_at(rows: &[List<bool>], k: usize) -> &[bool]
     }
 }
 
-fn rows_through(
-    alloc: Global,
-    k: usize,
-    rows: &[List<bool>],
-) -> Result<List<List<bool>>, NoMemory>
+fn rows_through(alloc: Global, k: usize, rows: &[List<bool>]) -> Result<List<List<bool>>, NoMemory>
     ensures { IfOk result (λ more. more ≡ rows_through k rows.now) }
 {
     let middle = row_at(rows, k);

@@ -105,8 +105,10 @@ fn clashes_itself(
         }
         Constraint::Check { expr, slots } => {
             let of = expression_kinds(alloc, sight.kinds, slots.as_slice(), expr)?;
-            Ok(is_kindless(sight.kinds, slots.as_slice(), of.as_slice())
-                || has_other(Kind::Bool, of.as_slice()))
+            Ok(
+                is_kindless(sight.kinds, slots.as_slice(), of.as_slice())
+                    || has_other(Kind::Bool, of.as_slice()),
+            )
         }
         Constraint::Eval { expr, slots, .. } => {
             let of = expression_kinds(alloc, sight.kinds, slots.as_slice(), expr)?;

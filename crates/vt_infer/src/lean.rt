@@ -32,7 +32,9 @@ fn implies(meta: &Metamodel, x: u16, class: ClassId, constraint: &Constraint) ->
 {
     match constraint {
         Constraint::Attr {
-            class: own, from, ..
+            class: own,
+            from,
+            ..
         } => is_variable(x, from) && meta.isa(*own, class),
         Constraint::Ref {
             class: own,

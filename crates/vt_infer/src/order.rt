@@ -38,11 +38,7 @@ fn ranks(alloc: Global, rows: &[List<bool>]) -> Result<List<usize>, NoMemory>
 }
 
 // Adds the patterns of a rank.
-fn add_ranked(
-    order: &mut List<PatternId>,
-    ranks: &[usize],
-    rank: usize,
-) -> Result<(), NoMemory>
+fn add_ranked(order: &mut List<PatternId>, ranks: &[usize], rank: usize) -> Result<(), NoMemory>
     requires { length ranks.now ≤ 65536 }
     ensures { OnOk result (order.new ≡ order.old ++ ranked_from rank 0 ranks.now) }
 {
@@ -55,10 +51,7 @@ fn add_ranked(
 }
 
 /// The patterns by how many others each calls, directly or through others.
-pub(crate) fn by_rank(
-    alloc: Global,
-    rows: &[List<bool>],
-) -> Result<List<PatternId>, NoMemory>
+pub(crate) fn by_rank(alloc: Global, rows: &[List<bool>]) -> Result<List<PatternId>, NoMemory>
     requires { length rows.now ≤ 65536 }
     ensures { IfOk result (λ order. order ≡ ranked_below (length rows.now + 1) (map rank rows.now)) }
 {

@@ -269,7 +269,9 @@ pub(crate) fn places_of(
             let kinds = one(alloc, type_kind(*ty))?;
             one_place(alloc, term, kinds)
         }
-        Constraint::Attr { attr, from, to, .. } => attribute_places(alloc, meta, sight, *attr, from, to),
+        Constraint::Attr { attr, from, to, .. } => attribute_places(
+            alloc, meta, sight, *attr, from, to,
+        ),
         Constraint::Ref { from, to, .. } => {
             let first = one(alloc, Kind::Obj)?;
             let second = one(alloc, Kind::Obj)?;

@@ -31,7 +31,10 @@ fn recursion_stands_at_the_first_pattern_on_a_cycle(rt: HostRuntime) -> Result<(
         ("1 1: neg 0 0", (1, 0)),
         ("1 2: sum 0 0 1", (1, 0)),
         // Through three patterns; what only leads to a cycle is on none.
-        ("1 1: find 1 0\n1 1: find 2 0\n1 1: find 3 0\n1 1: find 1 0", (1, 1)),
+        (
+            "1 1: find 1 0\n1 1: find 2 0\n1 1: find 3 0\n1 1: find 1 0",
+            (1, 1),
+        ),
         ("1 1: find 1 0\n1 1: find 2 0\n1 1: find 0 0", (1, 0)),
         // In a later body, and before a clash and an unbound variable.
         ("1 1: int 0; text 0\n1 1:\n1 1: Book 0 | find 2 0", (1, 2)),
@@ -57,9 +60,15 @@ fn kinds_clash_at_the_first_pattern(rt: HostRuntime) -> Result<(), Fail> {
         ("1 1: same 0 =1; same 0 =2", (0, 0)),
         // Through calls, also where the called pattern stands behind and is itself at fault.
         ("1 1: find 1 0; Book 0\n1 1: same 0 =1", (2, 0)),
-        ("1 1: find 1 0\n1 1: find 2 0 | Book 0\n1 1: same 0 =1", (2, 0)),
+        (
+            "1 1: find 1 0\n1 1: find 2 0 | Book 0\n1 1: same 0 =1",
+            (2, 0),
+        ),
         ("1 1: Book 0; neg 1 0\n1 1: same 0 =1", (2, 0)),
-        ("1 2: Book 0; sum 1 1 0 #\n2 2: same 0 =1; same 1 =1", (2, 0)),
+        (
+            "1 2: Book 0; sum 1 1 0 #\n2 2: same 0 =1; same 1 =1",
+            (2, 0),
+        ),
         // A parameter gets two kinds in two bodies.
         ("1 1: Book 0\n1 1: Book 0 | same 0 =1", (2, 1)),
         ("1 1: Book 0 | Shelf 0", (0, 0)),

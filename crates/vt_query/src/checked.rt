@@ -26,7 +26,6 @@ pub struct Checked {
 
 impl Model for Checked {
     ghost use Rattle.vt_query.specs.Checked.{Checked, IsChecked};
-
     ghost use Rattle.std.specs.Coded.{codes};
     ghost use Rattle.vt_text.specs.contracts.expr.Expr as expr;
 
@@ -113,7 +112,6 @@ pub struct Flat {
 
 impl Model for Flat {
     ghost use Rattle.vt_query.specs.Checked.{Checked, IsChecked};
-
     ghost use Rattle.std.specs.Coded.{codes};
     ghost use Rattle.vt_text.specs.contracts.expr.Expr as expr;
 

@@ -65,12 +65,7 @@ fn slots(alloc: Global, words: &str) -> Result<List<u16>, Fail> {
     Ok(slots)
 }
 
-fn pair(
-    alloc: Global,
-    first: Expr,
-    operator: Operator,
-    expr: Expr,
-) -> Result<Expr, NoMemory> {
+fn pair(alloc: Global, first: Expr, operator: Operator, expr: Expr) -> Result<Expr, NoMemory> {
     let rest = vec![in alloc; Operand { operator, expr }]?;
     Ok(Expr::Chain(Boxed::new(alloc, first)?, Items::from_vec(rest)))
 }
