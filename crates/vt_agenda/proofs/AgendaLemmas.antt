@@ -1,6 +1,7 @@
 -- An agenda stands for the empty history, and for one step more after it took the step's report.
 use Rattle.std.proofs.Common.{◌≡◌, ℕ, true, false, List, [], ◌∷◌, length, Option, Some, None, refl, sym, ap, subst, ◌∙◌}
-use Rattle.std.specs.Prelude.{Contains}
+use Rattle.std.specs.Prelude.{◌==◌, Contains, if◌then◌else◌}
+use Rattle.std.specs.List.{list_any}
 use Rattle.std.proofs.lemmas.Bool.{false≢true}
 use Rattle.std.specs.List.Sorted.{IsStrictlySortedBy}
 use Rattle.vt_facts.proofs.MemberLemmas.{Contains-nil}
@@ -20,7 +21,7 @@ use Rattle.vt_agenda.specs.Trigger.{has_job}
 use Rattle.vt_agenda.specs.Activation.{activation}
 use Rattle.vt_agenda.specs.Enabled.{IsEntry, AreEnabled}
 use Rattle.vt_agenda.specs.Reported.{reported}
-use Rattle.vt_agenda.specs.Agenda.{Kept, at, kept, entries_of, due_of, StandsFor, IsDue, IsReady}
+use Rattle.vt_agenda.specs.Agenda.{Kept, at, kept, entries_of, due_of, last_after, StandsFor, IsDue, IsReady}
 use Rattle.vt_agenda.specs.Inside.Listing.{Rise}
 use Rattle.vt_agenda.specs.Inside.Order.{active_cmp}
 use Rattle.vt_agenda.specs.Inside.Taking.{taken, AreOf}
@@ -30,6 +31,12 @@ use Rattle.vt_agenda.specs.declared.trigger.Trigger.{Trigger}
 use Rattle.vt_agenda.proofs.EventLemmas.{reported-event, tables-stay}
 use Rattle.vt_agenda.proofs.HistoryLemmas.{activation-step, AreOf-taken}
 use Rattle.vt_agenda.proofs.EnabledLemmas.{AreEnabled-kept}
+
+-- where what fired is none of the rules, the rule that fired last stays
+pub last-stays : (triggers : List Trigger) (fired : Option (RuleId × List Value)) (rule : RuleId) (m : List Value) (last : Option RuleId)
+    → fired ≡ Some (rule, m) → list_any (λ (t : Trigger). t.rule.0 == rule.0) triggers ≡ false → last ≡ last_after triggers fired last
+last-stays triggers fired rule m last is other =
+    sym (ap (λ f. last_after triggers f last) is ∙ ap (λ b. if b then Some rule else last) other)
 
 -- nothing is kept before the first step
 pub AreOf-none : (triggers : List Trigger) → AreOf triggers []

@@ -143,6 +143,10 @@ events-at events p i e net at is =
     let place : i ≡ there.0 = net.once i there.0 e found.0 at there.1 (λ k. pattern_at (number k)) in
     found.1 ∙ sym there.1 ∙ ap (slice_get events) (sym place) ∙ at
 
+-- what is told of a pattern has its sets apart
+pub found-apart : (events : List PatternEvents) (p : PatternId) (e : PatternEvents) → IsNet events → events_of events p ≡ Some e → AreApart e
+found-apart events p e net is = net.apart e (Contains-find (λ (f : PatternEvents). f.pattern.0 == p.0) events e is).0
+
 pub IsNet-Reports : (step : Step) (earlier : List Step) (report : StepReport) → Reports step earlier report → IsNet report.events
 IsNet-Reports step earlier report reports = record {
   once = λ i j e f at_i at_j same.

@@ -159,7 +159,7 @@ module _ {K : Type 0} (R : K → K → Ordering) (o : IsTotalOrder R) where
   find-first xs k y ys s e = by (R k y) refl
     where
       sorted : IsStrictlySortedBy R (y ∷ ys)
-      sorted = subst (IsStrictlySortedBy R) e (sorted-filter R (λ x. not (is_lt (R x k))) xs s)
+      sorted = subst (IsStrictlySortedBy R) e (sorted-filter R o (λ x. not (is_lt (R x k))) xs s)
 
       passes : not (is_lt (R y k)) ≡ true
       passes = (Contains-from_filter (λ x. not (is_lt (R x k))) xs y (subst (λ zs. Contains zs y) (sym e) (Contains-head y ys))).1

@@ -1,5 +1,5 @@
 -- Tests of the items of a list.
-use Rattle.std.proofs.Common.{◌≡◌, ℕ, zero, suc, ◌≤◌, length, arith, Bool, true, false, not, cond, ◌||◌, Some, None, List, [], ◌∷◌, refl, sym, ap, subst, ◌∙◌, inl, inr, ◌⊎◌}
+use Rattle.std.proofs.Common.{◌≡◌, ℕ, zero, suc, ◌+◌, ◌≤◌, length, arith, Bool, true, false, not, cond, ◌||◌, Some, None, List, [], ◌∷◌, refl, sym, ap, subst, ◌∙◌, inl, inr, ◌⊎◌}
 use Rattle.std.specs.Prelude.{filter, slice_get, Contains}
 use Rattle.std.specs.List.{list_any}
 use Rattle.std.proofs.lemmas.Bool.{false≢true}
@@ -81,3 +81,10 @@ pub slice_get-none : {X : Type 0} (xs : List X) (i : ℕ) → slice_get xs i ≡
 slice_get-none [] i e = omega arith
 slice_get-none (y ∷ xs) zero e = cc
 slice_get-none (y ∷ xs) (suc i) e = let deep : length xs ≤ i = slice_get-none xs i e in omega arith
+
+-- room for what is to come
+pub room-now : {X : Type 0} (xs : List X) (x : X) (later : List X) (n : ℕ) → xs ≡ x ∷ later → length xs ≤ n → 1 ≤ n
+room-now xs x later n e l = let m : length (x ∷ later) ≤ n = subst (λ ys. length ys ≤ n) e l in omega arith
+
+pub room-next : {X : Type 0} (xs : List X) (x : X) (later : List X) (n k : ℕ) → xs ≡ x ∷ later → length xs ≤ n → n ≤ k + 1 → length later ≤ k
+room-next xs x later n k e l r = let m : length (x ∷ later) ≤ n = subst (λ ys. length ys ≤ n) e l in omega arith

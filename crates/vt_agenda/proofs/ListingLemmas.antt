@@ -94,7 +94,7 @@ pub AddsOf-none : (trigger : Trigger) (due : List Due) → AddsOf trigger due du
 AddsOf-none trigger due d there = inl there
 
 pub AddsOf-trans : (trigger : Trigger) (a b c : List Due) → AddsOf trigger a b → AddsOf trigger b c → AddsOf trigger a c
-AddsOf-trans trigger a b c first then d there = elim (then d there) [
+AddsOf-trans trigger a b c first second d there = elim (second d there) [
   | inl mid ↦ first d mid
   | inr is ↦ inr is
 ]

@@ -146,7 +146,7 @@ entry-of a e is = by a.activation.since refl is
         let same : entry_with a k ≡ e = cc in
         subst (IsEntryOf a) same (record { rule = refl; tuple = refl; state = refl; priority = refl; since = s })
 
-abbrev probe : RuleId → List Value → Entry
+abbrev pub probe : RuleId → List Value → Entry
 probe rule m = record { rule = rule; tuple = m; state = Inactive; priority = pos 0; since = 0 }
 
 -- entries are in the order of their activations

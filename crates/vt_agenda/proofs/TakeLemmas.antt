@@ -2,6 +2,7 @@
 use Rattle.std.proofs.Common.{◌≡◌, ℕ, false, List, [], ◌∷◌, ◌++◌, Option, Some, None, refl, sym, ap, subst, ◌∙◌, append_assoc}
 use Rattle.std.specs.Prelude.{if◌then◌else◌, option_map}
 use Rattle.std.specs.List.Sorted.{IsStrictlySortedBy}
+use Rattle.std.proofs.lemmas.List.{append-nil}
 use Rattle.vt_base.specs.declared.numbers.RuleId.{RuleId}
 use Rattle.vt_base.specs.declared.value.Value.{Value}
 use Rattle.vt_sorted.specs.Ascending.{with_item, without_item}
@@ -67,6 +68,12 @@ module _ (xs new : List Active) (step : ℕ) (d : Due) (m : List Value) (found :
       ∙ sym put
 
 -- ---- entries that are added in their order
+
+pub put-begins : (held rest all : List Entry) → held ≡ [] → rest ≡ all → held ++ rest ≡ all
+put-begins held rest all none same = ap (λ h. h ++ rest) none ∙ same
+
+pub put-done : (held rest all : List Entry) → rest ≡ [] → held ++ rest ≡ all → held ≡ all
+put-done held rest all none whole = sym (append-nil held) ∙ ap (λ r. held ++ r) (sym none) ∙ whole
 
 module _ (held rest all : List Entry) (e : Entry) (later : List Entry) (ascend : IsStrictlySortedBy by_activation all) (so_far : held ++ rest ≡ all) (next : rest ≡ e ∷ later) where
   whole : held ++ e ∷ later ≡ all

@@ -13,17 +13,17 @@ use Rattle.vt_agenda.specs.declared.trigger.Trigger.{Trigger}
 -- the numbers begin with this one
 from-above : (which n : ℕ) (rules : List Rule) (t : Trigger) → Contains (triggers_from which n rules) t → n ≤ t.rule.0
 from-above which n [] t there = absurd (Contains-nil t there)
-from-above which n (rule ∷ rules) t there = by (rule.agenda == which) there
+from-above which n (rule ∷ rules) t there = by (from-above which (n + 1) rules t) (rule.agenda == which) there
   where
-    later : Contains (triggers_from which (n + 1) rules) t → n ≤ t.rule.0
-    later deep = let l : n + 1 ≤ t.rule.0 = from-above which (n + 1) rules t deep in omega arith
+    later : n + 1 ≤ t.rule.0 → n ≤ t.rule.0
+    later l = omega arith
 
-    by : (b : Bool) → Contains (if b then trigger_of n rule ∷ triggers_from which (n + 1) rules else triggers_from which (n + 1) rules) t → n ≤ t.rule.0
-    by true h = elim (Contains-cons_cases (trigger_of n rule) t (triggers_from which (n + 1) rules) h) [
+    by : (Contains (triggers_from which (n + 1) rules) t → n + 1 ≤ t.rule.0) → (b : Bool) → Contains (if b then trigger_of n rule ∷ triggers_from which (n + 1) rules else triggers_from which (n + 1) rules) t → n ≤ t.rule.0
+    by rest true h = elim (Contains-cons_cases (trigger_of n rule) t (triggers_from which (n + 1) rules) h) [
       | inl is ↦ let e : n ≡ t.rule.0 = ap (λ u. u.rule.0) is in omega arith
-      | inr deep ↦ later deep
+      | inr deep ↦ later (rest deep)
     ]
-    by false deep = later deep
+    by rest false deep = later (rest deep)
 
 below : (n m : ℕ) → n + 1 ≤ m → nat_cmp n m ≡ Less
 below n m l = grind arith

@@ -173,7 +173,8 @@ impl AgendaOf<Box<dyn Resolver>> {
             → AreListed self.now.triggers h list) }
     {
         self.states.ascend();
-        self.states.listed(self.alloc)
+        let list = self.states.listed(self.alloc)?;
+        Ok(list)
     }
 
     // Gives all that is enabled to a resolver that holds nothing.

@@ -1,12 +1,14 @@
 // What an agenda does with its resolver.
-ghost use Rattle.std.specs.Prelude.{◌≡◌, ◌≤◌, ◌+◌, [], false, length, List, OnOk, Some};
+ghost use Rattle.std.specs.Prelude.{◌≡◌, ◌==◌, ◌≤◌, ◌+◌, [], false, length, List, OnOk, Some};
 ghost use Rattle.std.specs.Option.{option_copied};
+ghost use Rattle.std.specs.List.{list_any};
 ghost use Rattle.std.specs.List.Sorted.{IsStrictlySortedBy};
 ghost use Rattle.vt_sorted.specs.Ascending.{with_item};
 ghost use Rattle.vt_resolve.specs.Choice.{holds_match};
 ghost use Rattle.vt_resolve.specs.Entries.{by_activation, by_match};
 ghost use Rattle.vt_agenda.specs.Agenda.{activation_of, entry_of, last_after};
 ghost use Rattle.vt_agenda.specs.declared.active.Active.{Active};
+ghost use Rattle.vt_agenda.specs.declared.trigger.Trigger.{Trigger as Watched};
 ghost use Rattle.vt_agenda.specs.Inside.Taking.{entry_at, let_go, take_up};
 
 use crate::{Activation, Active, Trigger};
@@ -124,6 +126,13 @@ fn put_all(next: &mut Box<dyn Resolver>, entries: Vec<Entry>)
     }
 }
 
+// Whether the rule is one of these.
+fn is_one(triggers: &[Trigger], rule: RuleId) -> bool
+    ensures { result ≡ list_any (λ (t : Watched). t.rule.0 == rule.0) triggers.now }
+{
+    triggers.iter().any(|t| t.rule.0 == rule.0)
+}
+
 // Tells the resolver what fired, where it is one of the rules.
 pub(crate) fn tell_fired(
     held: &mut Box<dyn Resolver>,
@@ -135,7 +144,7 @@ pub(crate) fn tell_fired(
     ensures held { (seen held.new).held ≡ (seen held.old).held }
 {
     if let Some((rule, _)) = fired {
-        if triggers.iter().any(|t| t.rule.0 == rule.0) {
+        if is_one(triggers, *rule) {
             held.fired(*rule);
         }
     }

@@ -1,6 +1,6 @@
 // Lists what a report gives the activations of an agenda's rules.
 ghost use Rattle.std.specs.Option.{option_copied};
-ghost use Rattle.std.specs.Prelude.{◌≡◌, MatchOption, IfOk, Contains, is_none, List, OnOk, Some, None, true};
+ghost use Rattle.std.specs.Prelude.{◌≡◌, MatchOption, IfOk, Contains, is_none, List, OnOk, Some, None, slice_get, true};
 ghost use Rattle.vt_base.specs.Rows.{has_row};
 ghost use Rattle.vt_base.specs.declared.numbers.RuleId.{RuleId};
 ghost use Rattle.vt_base.specs.declared.value.Value.{Value};
@@ -55,12 +55,19 @@ fn add_rows(
     Ok(())
 }
 
+// The part at a place.
+fn part(events: &[PatternEvents], at: usize) -> Option<&PatternEvents>
+    ensures { option_copied result ≡ slice_get events.now at }
+{
+    events.get(at)
+}
+
 // What is told of a pattern. In most reports that stands at the pattern's own place.
 fn events_of(events: &[PatternEvents], pattern: PatternId) -> Option<&PatternEvents>
     requires net { IsNet events.now }
     ensures { option_copied result ≡ events_of events.now pattern }
 {
-    match events.get(usize::from(pattern.0)) {
+    match part(events, usize::from(pattern.0)) {
         Some(found) if found.pattern.0 == pattern.0 => Some(found),
         _ => events.iter().find(|e| e.pattern.0 == pattern.0),
     }

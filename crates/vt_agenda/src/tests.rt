@@ -1,1 +1,2 @@
-//! Agendas.
+//! The lifecycle by its table, and runs of random steps beside the definition.
+mod lifecycle;

@@ -14,7 +14,7 @@ returns-then-not-has_none c = fire_due-none c.args.trigger c.args.fired.now (opt
 
 pub returns : goal.returns
 returns c = (
-  said_here c.args.fired.now c.in-Some.number c.args.trigger.rule c.in-Some.tuple c.in-Some.is c.if-number-rule.false,
+  said_here c.args.fired.now c.in-Some.number c.args.trigger.rule c.in-Some.tuple c.in-Some.is c.if-number-trigger.false,
   sym c.has_none.ensures ∙ c.if-not-has_none.false,
   λ m f. (said c.in-Some.number c.args.trigger.rule c.in-Some.tuple m (subst (λ x. fires x c.args.trigger.rule m ≡ true) c.in-Some.is f)).1,
 )

@@ -1,4 +1,4 @@
-use Rattle.std.proofs.Common.{◌≡◌, [], subst, inl, inr}
+use Rattle.std.proofs.Common.{◌≡◌, [], sym, subst, inl, inr}
 use Rattle.std.proofs.lemmas.List.{nil_from_length}
 use Rattle.std.specs.Prelude.{Contains}
 use Rattle.vt_facts.proofs.MemberLemmas.{Contains-nil}
@@ -6,7 +6,7 @@ use Rattle.vt_agenda.proofs.ListingLemmas.{AreGiven, begin-given, given-rule}
 use Rattle.vt_agenda.proofs.listing.list_due.Goals as goal
 
 pub loop-trigger-init : goal.loop-trigger-init
-loop-trigger-init c = subst (λ ds. AreGiven c.args.report.now ds c.args.triggers.now c.args.triggers.now) ? (begin-given c.args.report.now c.args.triggers.now c.requires.rise)
+loop-trigger-init c = subst (λ ds. AreGiven c.args.report.now ds c.args.triggers.now c.args.triggers.now) (sym c.new-due.ensures) (begin-given c.args.report.now c.args.triggers.now c.requires.rise)
 
 pub loop-trigger-preserved : goal.loop-trigger-preserved
 loop-trigger-preserved c = given-rule c.args.report.now c.loop-trigger.due c.add_rule.new.due c.in-Some.trigger.now c.in-Some.later.now c.args.triggers.now c.requires.rise

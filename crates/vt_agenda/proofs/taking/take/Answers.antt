@@ -18,15 +18,15 @@ pub enter-requires-clause-fresh : goal.enter-requires-clause-fresh
 enter-requires-clause-fresh g c = λ entry is.
     fresh-left c.args.states.now.items (active_of c.args.due.trigger c.into_both-tuple.result.0 inactive) _ _ (option_copied c.at.result)
     c.ascend.ensures c.requires.holds c.at.ensures c.leave-copy.ensures.held
-    (active_of c.args.due.trigger c.into_both-tuple.result.0 c.after.result) entry refl refl is
+    (active_of c.args.due.trigger c.into_both-tuple.result.0 c.after-active.result) entry refl refl is
 
 pub returns-clause-at : goal.returns-clause-at
 returns-clause-at g c =
-    take-at c.args.states.now.items c.put.new.self.items c.args.step c.args.due c.into_both-tuple.result.0 (option_copied c.at.result) c.leave-copy.result.0 c.after.result
-    c.into_both-tuple.ensures.first c.at.ensures c.leave-copy.ensures.activation c.after.ensures c.put.ensures.at
+    take-at c.args.states.now.items c.put.new.self.items c.args.step c.args.due c.into_both-tuple.result.0 (option_copied c.at.result) c.leave-copy.result.0 c.after-active.result
+    c.into_both-tuple.ensures.first c.at.ensures c.leave-copy.ensures.activation c.after-active.ensures c.put.ensures.at
 
 pub returns-clause-holds : goal.returns-clause-holds
 returns-clause-holds g c =
-    take-holds c.args.states.now.items c.put.new.self.items c.args.step c.args.due c.into_both-tuple.result.0 (option_copied c.at.result) c.leave-copy.result.0 c.after.result
-    c.into_both-tuple.ensures.first c.at.ensures c.leave-copy.ensures.activation c.after.ensures
+    take-holds c.args.states.now.items c.put.new.self.items c.args.step c.args.due c.into_both-tuple.result.0 (option_copied c.at.result) c.leave-copy.result.0 c.after-active.result
+    c.into_both-tuple.ensures.first c.at.ensures c.leave-copy.ensures.activation c.after-active.ensures
     _ _ _ c.requires.holds c.leave-copy.ensures.held c.enter.ensures.held c.put.ensures.entries

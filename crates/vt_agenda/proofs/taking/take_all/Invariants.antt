@@ -5,8 +5,8 @@ use Rattle.vt_agenda.proofs.taking.take_all.Given as goal
 
 abbrev pub invariant-loop-one : goal.invariant-loop-one
 invariant-loop-one g l =
-    (goal.iterator-loop-one).can_next l.one-iterator
-    × (goal.iterator-loop-one).is_finite l.one-iterator
+    (goal.iterator-loop-one g).can_next l.one-iterator
+    × (goal.iterator-loop-one g).is_finite l.one-iterator
     × IsTaking l.step l.one-iterator.rest.items l.states.items l.fn.due.items l.fn.states.items
     × (length l.one-iterator.rest.items ≤ l.states.spare)
     × (length l.one-iterator.rest.items ≤ ((goal.Resolver-dyn g (l.held.vtable, l.held.value)).seen l.held.value).spare)

@@ -11,8 +11,8 @@ use Rattle.vt_agenda.proofs.PlaceLemmas.{at-replaced, at-without_item, entries-r
 use Rattle.vt_agenda.proofs.states.States.put.Goals as goal
 
 -- it is in the place of what was there
-pub returns-in_default-clause-at : goal.returns-in_default-clause-at
-returns-in_default-clause-at c = λ rule m.
+pub returns-clause-at : goal.returns-clause-at
+returns-clause-at c = λ rule m.
     let q : Active = c.args.active in
     let xs : List Active = c.self.inside.set.items in
     ap (λ ys. at ys rule m) (rw c.unwrap.ensures at c.insert.ensures.items ∙ ap (λ ys. with_item active_cmp ys q) c.remove.ensures.items)
@@ -20,8 +20,8 @@ returns-in_default-clause-at c = λ rule m.
     ∙ ap (λ a. if is_of q.rule q.tuple rule m then a else at xs rule m) (sym (placed-active q c.in_default.not-Inactive))
     ∙ ap (λ s. if is_of q.rule q.tuple rule m then placed q else at s.items rule m) c.self.view_is
 
-pub returns-in_default-clause-entries : goal.returns-in_default-clause-entries
-returns-in_default-clause-entries c =
+pub returns-clause-entries : goal.returns-clause-entries
+returns-clause-entries c =
     let q : Active = c.args.active in
     let xs : List Active = c.self.inside.set.items in
     ap entries_of (rw c.unwrap.ensures at c.insert.ensures.items ∙ ap (λ ys. with_item active_cmp ys q) c.remove.ensures.items)
