@@ -62,7 +62,9 @@ fn a_body_has_few_constraints_and_variables(rt: HostRuntime) -> Result<(), Fail>
         ("pattern p(a : Node, b : int, c) {", "Node(a);", 126, READ),
         ("pattern p(a : Node, b : int, c) {", "Node(a);", 127, FIRST),
         // a path is a constraint for each of its features
-        ("pattern p(a) { Node(a);", "Node.to.to.to.to(a, a);", 21, FIRST),
+        ("pattern p(a) { Node(a); Node(a);", "Node.to.to(a, a);", 63, READ),
+        ("pattern p(a) { Node(a); Node(a); Node(a);", "Node.to.to(a, a);", 63, FIRST),
+        // and has a variable between each two
         ("pattern p(a) {", "Node.to.to.to.to(a, a);", 21, READ),
         ("pattern p(a) {", "Node.to.to.to.to(a, a);", 22, FIRST),
         // each `_` is a variable
