@@ -1,6 +1,7 @@
 //! Query files as they are written: their grammar, and how lexemes are read by it.
 //!
-//! It stands on `vt_grammar` and `vt_text`. Read `specs/Words.antt`, then `specs/Rules.antt`.
+//! It stands on `vt_grammar` and `vt_text`. Read `specs/Words.antt`, `specs/Rules.antt`, then
+//! `specs/Parts.antt`.
 #![tactic(auto)]
 
 // What a file spells.
@@ -12,11 +13,19 @@ mod file;
 mod patterns;
 mod terms;
 mod words;
+// What holds of every list of lexemes.
+mod laws;
 
 // What a file spells.
 pub use tree::{
     AggTree, ArgTree, BodyTree, CallTree, CodeTree, ConstraintTree, FileTree, ParamTree,
     PatternTree, RightTree, TermTree, TypeTree,
 };
+// From the lexemes of a file to its tree.
 pub use file::read_file;
 pub use words::{feature_name, identifier, number, string};
+// What holds of every list of lexemes.
+pub use laws::{balanced_is_longest, part_goes_on};
+
+#[cfg(test)]
+mod tests;
