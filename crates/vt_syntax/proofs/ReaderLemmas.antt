@@ -65,8 +65,8 @@ module _ {N A B : Type 0} (name : N) (a : Grammar (N → A)) (b : Grammar (A →
 
   fails : (r : Read (N → A)) (n : ℕ) → term_of r ≡ Err n → whole_of r ≡ Err n
   unfolding term_of whole_of
-  fails (Ok x) n e = absurd (let h : Ok (x.0 name, x.1) ≡ Err n = e in cc)
-  fails (Err m) n e = ap Err (err_same m n e)
+  fails (Ok x) n e = cc
+  fails (Err m) n e = cc
 
   pub compared_goes : (ls rest : List Lexeme) (t : A) → read (applied name a) ls ≡ Ok (t, rest) → read (applied name (made (λ x m. x.1 (x.0 m)) (seq a b))) ls ≡ read (applied t b) rest
   unfolding read term_of whole_of step

@@ -1,4 +1,5 @@
 -- No public clause cites a module below.
+pub mod Digits
 pub mod Factored
 pub mod SameChoices
 pub mod SameFile

@@ -36,7 +36,7 @@ abbrev pub feature_name : Grammar (List ℕ)
 feature_name = made (λ l. l.text) any_word
 
 -- a number, or the greatest one where it is more
-abbrev pub limited : ℕ → ℕ
+unfoldable pub limited : ℕ → ℕ
 limited n = if nat_le n 9223372036854775807 then n else 9223372036854775807
 
 -- the number that digits write; a token never writes more than the greatest one

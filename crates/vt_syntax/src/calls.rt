@@ -87,6 +87,26 @@ fn arg(lexemes: &[Lexeme]) -> Result<(ArgTree, &[Lexeme]), Stop>
     }
 }
 
+// Whether an argument is next.
+fn is_arg(lexemes: &[Lexeme]) -> bool
+    ensures { result ≡ starts (first arg) lexemes.now }
+{
+    match lexemes.first() {
+        Some(lexeme) => matches!(
+            lexeme.symbol,
+            Symbol::Identifier
+                | Symbol::Blank
+                | Symbol::Minus
+                | Symbol::Number
+                | Symbol::Quoted
+                | Symbol::True
+                | Symbol::False
+                | Symbol::Hash
+        ),
+        None => false,
+    }
+}
+
 // An argument behind a comma.
 struct FurtherArg;
 
@@ -120,12 +140,12 @@ fn args(alloc: Global, lexemes: &[Lexeme]) -> Result<(List<ArgTree>, &[Lexeme]),
         (reading (some_of (separated (token symbol.Comma) arg)) lexemes.now) }
 {
     let mut args = List::new(alloc);
-    if is_next(lexemes, Symbol::RightParen) {
-        Ok((args, lexemes))
-    } else {
+    if is_arg(lexemes) {
         let (first, rest) = arg(lexemes)?;
         args.add(first)?;
         more::<FurtherArg>(alloc, args, rest)
+    } else {
+        Ok((args, lexemes))
     }
 }
 

@@ -2,6 +2,7 @@
 ghost use Rattle.std.specs.Prelude.{◌≡◌, ◌+◌, ◌*◌, ◌-◌, ◌≤◌, pos};
 ghost use Rattle.vt_grammar.specs.Reading.{read as reading, first};
 ghost use Rattle.vt_grammar.specs.Gives.{Gives};
+ghost use Rattle.vt_syntax.specs.Inside.Digits.{digits_on};
 ghost use Rattle.vt_syntax.specs.Words.{identifier, any_word, feature_name, limited, int_of, number, string};
 
 use vt_base::Text;
@@ -57,25 +58,38 @@ pub fn feature_name(lexemes: &[Lexeme]) -> Result<(Text, &[Lexeme]), Stop>
 }
 
 // A number with one more digit, or the greatest one where that is more.
+#[tactic(auto, unfolding(crate::specs::Words::limited))]
 fn with_digit(n: u64, b: u8) -> u64
     requires { n ≤ 9223372036854775807 }
     ensures value { result ≡ limited (n * 10 + (b - 48)) }
     ensures bounded { result ≤ 9223372036854775807 }
 {
     let next = n as u128 * 10 + b.saturating_sub(b'0') as u128;
-    if next <= MOST { next as u64 } else { MOST as u64 }
+    if next <= MOST {
+        next as u64
+    } else {
+        MOST as u64
+    }
+}
+
+// The number that digits write, cut down on the way.
+fn digits_on(digits: &[u8]) -> u64
+    ensures value { result ≡ digits_on 0 digits.now }
+    ensures bounded { result ≤ 9223372036854775807 }
+{
+    let mut n = 0u64;
+    for b in digits {
+        n = with_digit(n, *b);
+    }
+    n
 }
 
 // The number that digits write. What a token writes is never cut down.
-#[tactic(auto, using(crate::proofs::DigitLemmas::limited_first))]
+#[tactic(auto, using(crate::proofs::DigitLemmas::digits_are))]
 fn int_of(digits: &str) -> i64
     ensures { result ≡ pos (int_of digits.now) }
 {
-    let mut n = 0u64;
-    for b in digits.as_bytes() {
-        n = with_digit(n, *b);
-    }
-    n as i64
+    digits_on(digits.as_bytes()) as i64
 }
 
 /// The number at the front, and the lexemes after it.

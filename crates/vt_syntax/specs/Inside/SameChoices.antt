@@ -4,6 +4,22 @@ use Rattle.vt_grammar.specs.declared.lexeme.Lexeme.{Lexeme}
 use Rattle.vt_grammar.specs.Grammar.{Grammar, nothing, seq, alt, made, Join, Spells, IsPart}
 use Rattle.vt_grammar.specs.SameAs.{SameAs}
 
+-- what a function that follows gives of what is before it
+abbrev pub taken_by : {A B : Type 0} → Grammar A → Grammar (A → B) → Grammar B
+taken_by a b = made (λ x. x.1 x.0) (seq a b)
+
+-- a function of what is before is made of what follows
+abbrev pub made_behind : {N B C : Type 0} → (N → B → C) → Grammar B → Grammar (N → C)
+made_behind f b = made (λ y z. f z y) b
+
+-- a function of what is before, whose value the second takes
+abbrev pub composed : {A B C : Type 0} → Grammar (A → B) → Grammar (B → C) → Grammar (A → C)
+composed b c = made (λ x y. x.1 (x.0 y)) (seq b c)
+
+-- a function, behind which nothing follows
+abbrev pub ended : {A B : Type 0} → (A → B) → Grammar (A → B)
+ended f = made (λ _ z. f z) nothing
+
 -- what is the same as the same is the same
 pub same_through : {A : Type 0} (g h k : Grammar A) → SameAs g h → SameAs h k → SameAs g k
 same_through g h k s t = record {
@@ -49,11 +65,11 @@ module _ {A B C : Type 0} (f : A × B → C) (a a' : Grammar A) (b : Grammar B) 
 module _ {A B : Type 0} (a : Grammar A) (b b' : Grammar (A → B)) where
   -- the two with the front before each
   abbrev pub both_applied : Grammar B
-  both_applied = alt (made (λ x. x.1 x.0) (seq a b)) (made (λ x. x.1 x.0) (seq a b'))
+  both_applied = alt (taken_by a b) (taken_by a b')
 
   -- the front once
   abbrev pub applied_once : Grammar B
-  applied_once = made (λ x. x.1 x.0) (seq a (alt b b'))
+  applied_once = taken_by a (alt b b')
 
   join_to : (ls : List Lexeme) (x : B) → Spells both_applied ls x → Spells applied_once ls x
   join_to ls x (inl h) = (h.0, record { front = h.1.front; back = h.1.back; whole = h.1.whole; first = h.1.first; second = inl h.1.second }, h.2)
@@ -86,38 +102,38 @@ module _ {A B : Type 0} (a : Grammar A) (b b' : Grammar (A → B)) where
 
 -- a function of the front that what follows gives
 module _ {A B C D : Type 0} (n : A → D) (f : D → B → C) (a : Grammar A) (b : Grammar B) where
-  named_to : (ls : List Lexeme) (x : C) → Spells (made (λ y. f y.0 y.1) (seq (made n a) b)) ls x → Spells (made (λ (y : A × (A → C)). y.1 y.0) (seq a (made (λ (y : B) (z : A). f (n z) y) b))) ls x
+  named_to : (ls : List Lexeme) (x : C) → Spells (made (λ y. f y.0 y.1) (seq (made n a) b)) ls x → Spells (taken_by a (made_behind (λ z y. f (n z) y) b)) ls x
   named_to ls x h = ((h.1.first.0, λ z. f (n z) h.0.1), record { front = h.1.front; back = h.1.back; whole = h.1.whole; first = h.1.first.1; second = (h.0.1, h.1.second, refl) }, ap (λ d. f d h.0.1) h.1.first.2 ∙ h.2)
 
-  named_from : (ls : List Lexeme) (x : C) → Spells (made (λ (y : A × (A → C)). y.1 y.0) (seq a (made (λ (y : B) (z : A). f (n z) y) b))) ls x → Spells (made (λ y. f y.0 y.1) (seq (made n a) b)) ls x
+  named_from : (ls : List Lexeme) (x : C) → Spells (taken_by a (made_behind (λ z y. f (n z) y) b)) ls x → Spells (made (λ y. f y.0 y.1) (seq (made n a) b)) ls x
   named_from ls x h = ((n h.0.0, h.1.second.0), record { front = h.1.front; back = h.1.back; whole = h.1.whole; first = (h.0.0, h.1.first, refl); second = h.1.second.1 }, ap (λ (g : A → C). g h.0.0) h.1.second.2 ∙ h.2)
 
-  named_part_to : (ls : List Lexeme) → IsPart (made (λ y. f y.0 y.1) (seq (made n a) b)) ls → IsPart (made (λ (y : A × (A → C)). y.1 y.0) (seq a (made (λ (y : B) (z : A). f (n z) y) b))) ls
+  named_part_to : (ls : List Lexeme) → IsPart (made (λ y. f y.0 y.1) (seq (made n a) b)) ls → IsPart (taken_by a (made_behind (λ z y. f (n z) y) b)) ls
   named_part_to ls (inl p) = inl p
   named_part_to ls (inr h) = inr (h.1.first.0, record { front = h.1.front; back = h.1.back; whole = h.1.whole; first = h.1.first.1; second = h.1.second })
 
-  named_part_from : (ls : List Lexeme) → IsPart (made (λ (y : A × (A → C)). y.1 y.0) (seq a (made (λ (y : B) (z : A). f (n z) y) b))) ls → IsPart (made (λ y. f y.0 y.1) (seq (made n a) b)) ls
+  named_part_from : (ls : List Lexeme) → IsPart (taken_by a (made_behind (λ z y. f (n z) y) b)) ls → IsPart (made (λ y. f y.0 y.1) (seq (made n a) b)) ls
   named_part_from ls (inl p) = inl p
   named_part_from ls (inr h) = inr (n h.0, record { front = h.1.front; back = h.1.back; whole = h.1.whole; first = (h.0, h.1.first, refl); second = h.1.second })
 
-  pub same_named : SameAs (made (λ y. f y.0 y.1) (seq (made n a) b)) (made (λ (y : A × (A → C)). y.1 y.0) (seq a (made (λ (y : B) (z : A). f (n z) y) b)))
+  pub same_named : SameAs (made (λ y. f y.0 y.1) (seq (made n a) b)) (taken_by a (made_behind (λ z y. f (n z) y) b))
   same_named = record { to = named_to; from = named_from; part_to = named_part_to; part_from = named_part_from }
 
 -- the same without a function on the front
 module _ {A B C : Type 0} (f : B → A → C) (a : Grammar A) (b : Grammar B) where
-  turned_to : (ls : List Lexeme) (x : C) → Spells (made (λ y. f y.1 y.0) (seq a b)) ls x → Spells (made (λ y. y.1 y.0) (seq a (made f b))) ls x
+  turned_to : (ls : List Lexeme) (x : C) → Spells (made (λ y. f y.1 y.0) (seq a b)) ls x → Spells (taken_by a (made f b)) ls x
   turned_to ls x h = ((h.0.0, f h.0.1), record { front = h.1.front; back = h.1.back; whole = h.1.whole; first = h.1.first; second = (h.0.1, h.1.second, refl) }, h.2)
 
-  turned_from : (ls : List Lexeme) (x : C) → Spells (made (λ y. y.1 y.0) (seq a (made f b))) ls x → Spells (made (λ y. f y.1 y.0) (seq a b)) ls x
+  turned_from : (ls : List Lexeme) (x : C) → Spells (taken_by a (made f b)) ls x → Spells (made (λ y. f y.1 y.0) (seq a b)) ls x
   turned_from ls x h = ((h.0.0, h.1.second.0), record { front = h.1.front; back = h.1.back; whole = h.1.whole; first = h.1.first; second = h.1.second.1 }, ap (λ (g : A → C). g h.0.0) h.1.second.2 ∙ h.2)
 
-  turned_part_to : (ls : List Lexeme) → IsPart (made (λ y. f y.1 y.0) (seq a b)) ls → IsPart (made (λ y. y.1 y.0) (seq a (made f b))) ls
+  turned_part_to : (ls : List Lexeme) → IsPart (made (λ y. f y.1 y.0) (seq a b)) ls → IsPart (taken_by a (made f b)) ls
   turned_part_to ls p = p
 
-  turned_part_from : (ls : List Lexeme) → IsPart (made (λ y. y.1 y.0) (seq a (made f b))) ls → IsPart (made (λ y. f y.1 y.0) (seq a b)) ls
+  turned_part_from : (ls : List Lexeme) → IsPart (taken_by a (made f b)) ls → IsPart (made (λ y. f y.1 y.0) (seq a b)) ls
   turned_part_from ls p = p
 
-  pub same_turned : SameAs (made (λ y. f y.1 y.0) (seq a b)) (made (λ y. y.1 y.0) (seq a (made f b)))
+  pub same_turned : SameAs (made (λ y. f y.1 y.0) (seq a b)) (taken_by a (made f b))
   same_turned = record { to = turned_to; from = turned_from; part_to = turned_part_to; part_from = turned_part_from }
 
 -- ---- a sequence of three
@@ -125,10 +141,10 @@ module _ {A B C : Type 0} (f : B → A → C) (a : Grammar A) (b : Grammar B) wh
 -- the front first, and then a function of it, which what follows takes
 module _ {A B C : Type 0} (a : Grammar A) (b : Grammar (A → B)) (c : Grammar (B → C)) where
   abbrev pub in_front : Grammar C
-  in_front = made (λ x. x.1 x.0) (seq (made (λ x. x.1 x.0) (seq a b)) c)
+  in_front = taken_by (taken_by a b) c
 
   abbrev pub behind : Grammar C
-  behind = made (λ (x : A × (A → C)). x.1 x.0) (seq a (made (λ (x : (A → B) × (B → C)) (y : A). x.1 (x.0 y)) (seq b c)))
+  behind = taken_by a (composed b c)
 
   regroup_to : (ls : List Lexeme) (x : C) → Spells in_front ls x → Spells behind ls x
   regroup_to ls x h =
@@ -270,18 +286,18 @@ module _ {A : Type 0} (a b c d e : Grammar A) where
 -- ---- nothing behind
 
 module _ {A B : Type 0} (f : A → B) (a : Grammar A) where
-  ended_to : (ls : List Lexeme) (x : B) → Spells (made f a) ls x → Spells (made (λ (y : A × (A → B)). y.1 y.0) (seq a (made (λ (_ : Unit {0}) (z : A). f z) nothing))) ls x
+  ended_to : (ls : List Lexeme) (x : B) → Spells (made f a) ls x → Spells (taken_by a (ended f)) ls x
   ended_to ls x h = ((h.0, f), record { front = ls; back = []; whole = sym (append-nil ls); first = h.1; second = (tt, refl, refl) }, h.2)
 
-  ended_from : (ls : List Lexeme) (x : B) → Spells (made (λ (y : A × (A → B)). y.1 y.0) (seq a (made (λ (_ : Unit {0}) (z : A). f z) nothing))) ls x → Spells (made f a) ls x
+  ended_from : (ls : List Lexeme) (x : B) → Spells (taken_by a (ended f)) ls x → Spells (made f a) ls x
   ended_from ls x h = (h.0.0, subst (λ s. Spells a s h.0.0) (sym (h.1.whole ∙ ap (λ s. h.1.front ++ s) h.1.second.1 ∙ append-nil h.1.front)) h.1.first, ap (λ (g : A → B). g h.0.0) h.1.second.2 ∙ h.2)
 
-  ended_part_to : (ls : List Lexeme) → IsPart (made f a) ls → IsPart (made (λ (y : A × (A → B)). y.1 y.0) (seq a (made (λ (_ : Unit {0}) (z : A). f z) nothing))) ls
+  ended_part_to : (ls : List Lexeme) → IsPart (made f a) ls → IsPart (taken_by a (ended f)) ls
   ended_part_to ls p = inl p
 
-  ended_part_from : ((ls : List Lexeme) (y : A) → Spells a ls y → IsPart a ls) → (ls : List Lexeme) → IsPart (made (λ (y : A × (A → B)). y.1 y.0) (seq a (made (λ (_ : Unit {0}) (z : A). f z) nothing))) ls → IsPart (made f a) ls
+  ended_part_from : ((ls : List Lexeme) (y : A) → Spells a ls y → IsPart a ls) → (ls : List Lexeme) → IsPart (taken_by a (ended f)) ls → IsPart (made f a) ls
   ended_part_from part ls (inl p) = p
   ended_part_from part ls (inr h) = subst (IsPart a) (sym (h.1.whole ∙ ap (λ s. h.1.front ++ s) h.1.second ∙ append-nil h.1.front)) (part h.1.front h.0 h.1.first)
 
-  pub same_ended : ((ls : List Lexeme) (y : A) → Spells a ls y → IsPart a ls) → SameAs (made f a) (made (λ (y : A × (A → B)). y.1 y.0) (seq a (made (λ (_ : Unit {0}) (z : A). f z) nothing)))
+  pub same_ended : ((ls : List Lexeme) (y : A) → Spells a ls y → IsPart a ls) → SameAs (made f a) (taken_by a (ended f))
   same_ended part = record { to = ended_to; from = ended_from; part_to = ended_part_to; part_from = ended_part_from part }
