@@ -34,7 +34,6 @@ fn lexemes_of(alloc: Global, text: &str) -> Result<List<Lexeme>, QueryFault>
 }
 
 // The number of the last line of a text, 1 where it has none.
-#[tactic(auto, using(crate::proofs::LineLemmas::fed, crate::proofs::LineLemmas::open, crate::proofs::LineLemmas::empty))]
 fn last_line(text: &str) -> u32
     requires { length text.now < 2 ^ 32 }
     ensures { result ≡ last_line text.now }

@@ -1,0 +1,4 @@
+pub mod FirstLemmas
+pub mod DistinctLemmas
+pub mod SeenLemmas
+pub mod TableLemmas
