@@ -2,3 +2,4 @@ pub mod FirstLemmas
 pub mod DistinctLemmas
 pub mod SeenLemmas
 pub mod TableLemmas
+pub mod FileLemmas

@@ -34,7 +34,7 @@ pub record IsFile (bytes : List ℕ) (tree : FileTree) : Type 0 where
 -- the tree has no fault, and makes the program
 pub record Accepts (meta : Metamodel) (bytes : List ℕ) (program : Program) : Type 0 where
   pub tree : FileTree
-  pub «is» : IsFile bytes tree
+  pub is_file : IsFile bytes tree
   pub faultless : fault_of meta tree ≡ None
   pub makes : program_of meta tree ≡ Some program
 
@@ -58,7 +58,7 @@ pub record IsNoFile (bytes : List ℕ) (line : ℕ) : Type 0 where
 -- what is spelled has this fault first
 pub record HasFault (meta : Metamodel) (bytes : List ℕ) (fault : QueryFault) : Type 0 where
   pub tree : FileTree
-  pub «is» : IsFile bytes tree
+  pub is_file : IsFile bytes tree
   pub first : fault_of meta tree ≡ Some fault
 
 -- a call answers the fault that there is; want of memory may stand for any answer

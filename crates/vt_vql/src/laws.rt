@@ -34,8 +34,10 @@ pub fn accepted_has_no_fault()
 {
     one_list();
     one_tree::<FileTree>();
+    one_bad_line();
     bad_spells_nothing();
     fault_spells_nothing::<FileTree>();
+    vt_grammar::one_fault::<FileTree>();
 }
 
 /// Bytes have at most one first fault.

@@ -1,0 +1,5 @@
+use Rattle.vt_vql.proofs.FileLemmas.{same_fault}
+use Rattle.vt_vql.proofs.laws.one_fault.Goals as goal
+
+pub returns : goal.returns
+returns c meta bytes fault other = same_fault c.one_list.ensures c.one_tree.ensures c.one_bad_line.ensures c.bad_spells_nothing.ensures c.one_fault.ensures c.fault_spells_nothing.ensures meta bytes fault other
