@@ -3,3 +3,4 @@ pub mod DistinctLemmas
 pub mod SeenLemmas
 pub mod TableLemmas
 pub mod FileLemmas
+pub mod FaultlessLemmas

@@ -13,7 +13,7 @@ use Rattle.vt_syntax.specs.declared.tree.BodyTree.{BodyTree}
 use Rattle.vt_syntax.specs.declared.tree.TypeTree.{TypeTree}
 use Rattle.vt_syntax.specs.declared.tree.TypeTree.TheVariants as type_tree
 use Rattle.vt_syntax.specs.declared.tree.ConstraintTree.{ConstraintTree}
-use Rattle.vt_syntax.specs.declared.tree.ConstraintTree.TheVariants.{Find, Neg, Check, Type, Path, Equal, Differ}
+use Rattle.vt_syntax.specs.declared.tree.ConstraintTree.TheVariants as tree
 use Rattle.vt_syntax.specs.declared.tree.RightTree.{RightTree}
 use Rattle.vt_syntax.specs.declared.tree.RightTree.TheVariants as right
 use Rattle.vt_syntax.specs.declared.tree.AggTree.{AggTree}
@@ -65,13 +65,13 @@ right_forms (right.Eval code) = code_forms code.line code.expr
 right_forms (right.Aggregate agg call) = agg_forms agg ++ closure_forms call.closure
 
 abbrev pub constraint_forms : ConstraintTree → List QueryFault
-constraint_forms (Find call) = closure_forms call.closure
-constraint_forms (Neg call) = closure_forms call.closure
-constraint_forms (Check code) = code_forms code.line code.expr
-constraint_forms (Type ty t) = type_forms ty
-constraint_forms (Path class features from to) = []
-constraint_forms (Equal a b) = right_forms b
-constraint_forms (Differ a b) = []
+constraint_forms (tree.Find call) = closure_forms call.closure
+constraint_forms (tree.Neg call) = closure_forms call.closure
+constraint_forms (tree.Check code) = code_forms code.line code.expr
+constraint_forms (tree.Type ty t) = type_forms ty
+constraint_forms (tree.Path class features from to) = []
+constraint_forms (tree.Equal a b) = right_forms b
+constraint_forms (tree.Differ a b) = []
 
 abbrev pub param_forms : ParamTree → List QueryFault
 param_forms p = declared_forms p.ty
@@ -119,13 +119,13 @@ knows_right meta patterns (right.Aggregate agg call) = knows_call meta patterns 
 
 -- and each type, class and feature
 abbrev pub knows : Metamodel → List PatternTree → ConstraintTree → Bool
-knows meta patterns (Find call) = knows_call meta patterns call
-knows meta patterns (Neg call) = knows_call meta patterns call
-knows meta patterns (Check code) = knows_code meta code.expr
-knows meta patterns (Type ty t) = is_some (type_of meta ty) && knows_term meta t
-knows meta patterns (Path class features from to) = is_some (steps_of meta class features) && (knows_term meta from && knows_term meta to)
-knows meta patterns (Equal a b) = knows_term meta a && knows_right meta patterns b
-knows meta patterns (Differ a b) = knows_term meta a && knows_term meta b
+knows meta patterns (tree.Find call) = knows_call meta patterns call
+knows meta patterns (tree.Neg call) = knows_call meta patterns call
+knows meta patterns (tree.Check code) = knows_code meta code.expr
+knows meta patterns (tree.Type ty t) = is_some (type_of meta ty) && knows_term meta t
+knows meta patterns (tree.Path class features from to) = is_some (steps_of meta class features) && (knows_term meta from && knows_term meta to)
+knows meta patterns (tree.Equal a b) = knows_term meta a && knows_right meta patterns b
+knows meta patterns (tree.Differ a b) = knows_term meta a && knows_term meta b
 
 abbrev pub knows_declared : Metamodel → Option TypeTree → Bool
 knows_declared meta None = true
@@ -165,9 +165,9 @@ right_arity patterns r = true
 
 -- an aggregate has one `#`, and any other call none
 abbrev pub has_arity : List PatternTree → ConstraintTree → Bool
-has_arity patterns (Find call) = has_args patterns 0 call
-has_arity patterns (Neg call) = has_args patterns 0 call
-has_arity patterns (Equal a b) = right_arity patterns b
+has_arity patterns (tree.Find call) = has_args patterns 0 call
+has_arity patterns (tree.Neg call) = has_args patterns 0 call
+has_arity patterns (tree.Equal a b) = right_arity patterns b
 has_arity patterns c = true
 
 abbrev pub body_arity : List PatternTree → BodyTree → Bool
@@ -180,7 +180,7 @@ has_wrong_arity patterns i p = not (list_all (body_arity patterns) p.bodies)
 
 -- a path is as many constraints as it has features
 abbrev pub size_of : ConstraintTree → ℕ
-size_of (Path class features from to) = length features
+size_of (tree.Path class features from to) = length features
 size_of c = 1
 
 -- how many parameters are declared with a type

@@ -7,7 +7,7 @@ use Rattle.vt_text.specs.Parsing.{reads, slots_of}
 use Rattle.vt_syntax.specs.declared.tree.ParamTree.{ParamTree}
 use Rattle.vt_syntax.specs.declared.tree.BodyTree.{BodyTree}
 use Rattle.vt_syntax.specs.declared.tree.ConstraintTree.{ConstraintTree}
-use Rattle.vt_syntax.specs.declared.tree.ConstraintTree.TheVariants.{Find, Neg, Check, Type, Path, Equal, Differ}
+use Rattle.vt_syntax.specs.declared.tree.ConstraintTree.TheVariants as tree
 use Rattle.vt_syntax.specs.declared.tree.RightTree.{RightTree}
 use Rattle.vt_syntax.specs.declared.tree.RightTree.TheVariants as right
 use Rattle.vt_syntax.specs.declared.tree.ArgTree.{ArgTree}
@@ -40,13 +40,13 @@ right_names (right.Aggregate agg call) = flat_map arg_names call.args
 
 -- each occurrence of a variable in a constraint
 abbrev pub names_in : ConstraintTree → List (List ℕ)
-names_in (Find call) = flat_map arg_names call.args
-names_in (Neg call) = flat_map arg_names call.args
-names_in (Check code) = expr_names code.expr
-names_in (Type ty t) = term_names t
-names_in (Path class features from to) = term_names from ++ term_names to
-names_in (Equal a b) = term_names a ++ right_names b
-names_in (Differ a b) = term_names a ++ term_names b
+names_in (tree.Find call) = flat_map arg_names call.args
+names_in (tree.Neg call) = flat_map arg_names call.args
+names_in (tree.Check code) = expr_names code.expr
+names_in (tree.Type ty t) = term_names t
+names_in (tree.Path class features from to) = term_names from ++ term_names to
+names_in (tree.Equal a b) = term_names a ++ right_names b
+names_in (tree.Differ a b) = term_names a ++ term_names b
 
 -- how often a variable occurs in a body
 abbrev pub occurrences : BodyTree → List ℕ → ℕ
@@ -111,14 +111,14 @@ right_variables loose i (right.Aggregate agg call) = flat_map (open_variable loo
 
 -- the variables of the constraint at a place, from left to right
 abbrev pub variables_in : (List ℕ → Bool) → ℕ → ConstraintTree → List Variable
-variables_in loose i (Find call) = each_gives (find_variable i) 0 call.args
-variables_in loose i (Neg call) = flat_map (open_variable loose) call.args
-variables_in loose i (Check code) = expr_variables code.expr
-variables_in loose i (Type ty t) = term_variables i 0 t
-variables_in loose i (Path class features from to) =
+variables_in loose i (tree.Find call) = each_gives (find_variable i) 0 call.args
+variables_in loose i (tree.Neg call) = flat_map (open_variable loose) call.args
+variables_in loose i (tree.Check code) = expr_variables code.expr
+variables_in loose i (tree.Type ty t) = term_variables i 0 t
+variables_in loose i (tree.Path class features from to) =
     term_variables i 0 from ++ fresh_from i 1 (length features - 1) ++ term_variables i (length features) to
-variables_in loose i (Equal a b) = term_variables i 0 a ++ right_variables loose i b
-variables_in loose i (Differ a b) = term_variables i 0 a ++ term_variables i 1 b
+variables_in loose i (tree.Equal a b) = term_variables i 0 a ++ right_variables loose i b
+variables_in loose i (tree.Differ a b) = term_variables i 0 a ++ term_variables i 1 b
 
 -- each variable once, where it first stands
 abbrev pub distinct : List Variable → List Variable

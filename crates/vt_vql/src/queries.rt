@@ -41,7 +41,7 @@ fn last_line(text: &str) -> u32
     let bytes = text.as_bytes();
     let feeds = bytes.iter().filter(|b| **b == b'\n').count();
     match bytes.last() {
-        Some(b'\n') => feeds as u32,
+        Some(b) if *b == b'\n' => feeds as u32,
         _ => (feeds + 1) as u32,
     }
 }

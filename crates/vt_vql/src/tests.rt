@@ -36,7 +36,7 @@ fn answer(alloc: Global, bytes: &[u8]) -> Result<Result<Program, QueryFault>, Fa
     Ok(read_queries(alloc, &meta, bytes))
 }
 
-fn form_name(form: Form) -> &str {
+fn form_name(form: Form) -> &'static str {
     match form {
         Form::Closure => "Closure",
         Form::Count => "Count",

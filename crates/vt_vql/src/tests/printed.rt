@@ -97,7 +97,7 @@ fn pair_text(alloc: Global, a: &Term, mark: &str, b: &Term) -> Result<String, Fa
     Ok(format!(in alloc; " {a} {mark} {b};")?)
 }
 
-fn agg_name(kind: AggKind) -> &str {
+fn agg_name(kind: AggKind) -> &'static str {
     match kind {
         AggKind::Sum => "sum",
         AggKind::Min => "min",
