@@ -9,8 +9,9 @@ ghost use Rattle.vt_sorted.specs.Inside.Pieces.{joined, IsFilled, IsPlace, IsEnd
 
 use crate::chunk::{CHUNK, Chunk, HALF};
 use crate::front::UpTo;
+use crate::like::Same;
 use crate::pieces::{fill, make_room, put, take};
-use crate::{Front, NoMemory, Walk};
+use crate::{Front, Like, NoMemory, Walk};
 use std::alloc::Global;
 use std::marker::Model;
 
@@ -42,11 +43,11 @@ impl<T: Ord> Model for Large<T> {
 }
 
 impl<T: Ord> Large<T> {
-    /// Whether the item stands in the set.
-    pub fn contains(&self, item: &T) -> bool
-        ensures { result ≡ has T.cmp self.now.items item.now }
+    /// Whether the item of a key stands in the set.
+    pub fn contains<K: Like<T>>(&self, key: &K) -> bool
+        ensures { result ≡ has T.cmp self.now.items (K.stands_for key.now) }
     {
-        locate(&self.used, item).is_ok()
+        locate(&self.used, key).is_ok()
     }
 
     pub fn len(&self) -> usize
@@ -67,7 +68,7 @@ impl<T: Ord> Large<T> {
     pub fn walk_from(&self, item: &T) -> Walk<'_, T>
         ensures { result ≡ items_from T.cmp self.now.items item.now }
     {
-        match locate(&self.used, item) {
+        match locate(&self.used, &Same { item }) {
             Ok((j, at)) => walk_at(&self.used, j, at),
             Err((j, at)) => walk_at(&self.used, j, at),
         }
@@ -80,11 +81,11 @@ impl<T: Ord> Large<T> {
         walk_past(&self.used, front)
     }
 
-    /// The item that is equal in order. `None` where none is.
-    pub fn find(&self, item: &T) -> Option<&T>
-        ensures { option_copied result ≡ find (eq_by_cmp T.cmp item.now) self.now.items }
+    /// The item that is equal in order to that of a key. `None` where none is.
+    pub fn find<K: Like<T>>(&self, key: &K) -> Option<&T>
+        ensures { option_copied result ≡ find (eq_by_cmp T.cmp (K.stands_for key.now)) self.now.items }
     {
-        match locate(&self.used, item) {
+        match locate(&self.used, key) {
             Ok((j, at)) => self.used[j].get(at),
             Err(_) => None,
         }
@@ -171,7 +172,7 @@ impl<T: Ord + Drop> Large<T> {
         ensures succeeds { 1 ≤ self.old.spare → IsOk result }
         ensures room { self.old.spare ≤ self.new.spare + 1 }
     {
-        match locate(&self.used, &item) {
+        match locate(&self.used, &Same { item: &item }) {
             Ok(_) => Ok(false),
             Err(_) if self.count >= LIMIT => Err(item),
             Err((j, at)) => match put(self.alloc, &mut self.used, &mut self.free, j, at, item) {
@@ -184,13 +185,13 @@ impl<T: Ord + Drop> Large<T> {
         }
     }
 
-    /// Takes the item out, and answers whether it stood.
-    pub fn remove(&mut self, item: &T) -> bool
-        ensures items { self.new.items ≡ without_item T.cmp self.old.items item.now }
-        ensures stood { result ≡ has T.cmp self.old.items item.now }
+    /// Takes the item of a key out, and answers whether it stood.
+    pub fn remove<K: Like<T>>(&mut self, key: &K) -> bool
+        ensures items { self.new.items ≡ without_item T.cmp self.old.items (K.stands_for key.now) }
+        ensures stood { result ≡ has T.cmp self.old.items (K.stands_for key.now) }
         ensures room { self.old.spare ≤ self.new.spare }
     {
-        match locate(&self.used, item) {
+        match locate(&self.used, key) {
             Ok((j, at)) => {
                 take(&mut self.used, &mut self.free, j, at);
                 self.count -= 1;
@@ -236,29 +237,32 @@ fn walk_at<T>(chunks: &[Chunk<T>], j: usize, at: usize) -> Walk<'_, T>
     Walk::over(&chunks[j].as_slice()[at..], &chunks[j + 1..])
 }
 
-// In which chunk the item stands and where, or else would.
-fn locate<T: Ord>(chunks: &[Chunk<T>], item: &T) -> Result<(usize, usize), (usize, usize)>
+// In which chunk the item of a key stands and where, or else would.
+fn locate<T: Ord, K: Like<T>>(
+    chunks: &[Chunk<T>],
+    key: &K,
+) -> Result<(usize, usize), (usize, usize)>
     requires some { 0 < length chunks.now }
     requires ascends { IsStrictlySortedBy T.cmp (joined chunks.now) }
     requires filled { IsFilled chunks.now }
-    ensures stands { IfOk result (λ p. StandsIn T.cmp chunks.now item.now p.0 p.1) }
-    ensures absent { IfErr result (λ p. GoesIn T.cmp chunks.now item.now p.0 p.1) }
+    ensures stands { IfOk result (λ p. StandsIn T.cmp chunks.now (K.stands_for key.now) p.0 p.1) }
+    ensures absent { IfErr result (λ p. GoesIn T.cmp chunks.now (K.stands_for key.now) p.0 p.1) }
 {
-    let j = place(chunks, item);
-    match chunks[j].find(item) {
+    let j = place(chunks, key);
+    match chunks[j].find(key) {
         Ok(at) => Ok((j, at)),
         Err(at) => Err((j, at)),
     }
 }
 
-// The chunk in which an item has its place.
-fn place<T: Ord>(chunks: &[Chunk<T>], item: &T) -> usize
+// The chunk in which the item of a key has its place.
+fn place<T: Ord, K: Like<T>>(chunks: &[Chunk<T>], key: &K) -> usize
     requires some { 0 < length chunks.now }
     requires ascends { IsStrictlySortedBy T.cmp (joined chunks.now) }
     requires filled { IsFilled chunks.now }
-    ensures { IsPlace T.cmp chunks.now item.now result }
+    ensures { IsPlace T.cmp chunks.now (K.stands_for key.now) result }
 {
-    end_place(chunks, &UpTo { item })
+    end_place(chunks, &UpTo { key })
 }
 
 // The items after a front.

@@ -5,7 +5,7 @@ ghost use Rattle.vt_sorted.specs.Inside.Fronts.{below-closed};
 ghost use Rattle.std.specs.Cmp.{partial_equiv_from_equiv, partial_order_from_total};
 ghost use Rattle.std.proofs.lemmas.Cmp.{eq_by_cmp_equiv, on_total, back_total, nat_cmp_total};
 
-use crate::{Front, NoMemory, Sorted};
+use crate::{Front, Like, NoMemory, Sorted};
 use std::alloc::Global;
 use std::cmp::Ordering;
 use std::test::Fail;
@@ -63,6 +63,15 @@ impl Ord for Falling {
 
     fn cmp(&self, other: &Falling) -> Ordering {
         other.0.cmp(&self.0)
+    }
+}
+
+// A number is the key to itself in the other order.
+impl Like<Falling> for u32 {
+    ghost stands_for = { λ n. record { 0 = n } };
+
+    fn order(&self, item: &Falling) -> Ordering {
+        item.0.cmp(self)
     }
 }
 
@@ -185,6 +194,27 @@ fn an_order_of_its_own_is_that_of_a_type(rt: HostRuntime) -> Result<(), Fail> {
     let mut walk = set.walk();
     for n in [7, 5, 2] {
         assert_eq!(rt; walk.next().map(|item| item.0), Some(n));
+    }
+    Ok(())
+}
+
+// Few items, and items in chunks.
+#[test]
+fn a_key_finds_what_it_stands_for(rt: HostRuntime) -> Result<(), Fail> {
+    for count in [3u32, 200] {
+        let mut set = Sorted::new(rt.alloc());
+        for n in 0..count {
+            let _ = set.insert(Falling(n));
+        }
+        for n in 0..count {
+            assert_eq!(rt; set.find_like(&n).map(|item| item.0), Some(n));
+            assert!(rt; set.contains_like(&n));
+            assert!(rt; set.remove_like(&n));
+            assert!(rt; !set.contains_like(&n));
+            assert!(rt; !set.remove_like(&n));
+            assert!(rt; set.find_like(&n).is_none());
+        }
+        assert!(rt; set.is_empty());
     }
     Ok(())
 }
