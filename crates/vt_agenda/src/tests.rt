@@ -1,2 +1,2 @@
-//! The lifecycle by its table, and runs of random steps beside the definition.
+//! The lifecycle by its table.
 mod lifecycle;
