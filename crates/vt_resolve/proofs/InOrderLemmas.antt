@@ -16,11 +16,6 @@ use Rattle.vt_base.proofs.OrderLemmas.{eq_by_cmp-Decides}
 use Rattle.vt_base.proofs.RowsLemmas.{same_list}
 use Rattle.vt_resolve.specs.Inside.InOrder.{in_order}
 
-or_twice : (a b c : Bool) → (a || (b || c)) ≡ (b || (a || c))
-or_twice true true c = refl
-or_twice true false c = refl
-or_twice false b c = refl
-
 -- what stands in a list, told by a test that goes over both parts of it
 in_parts : (a b c : Bool) → ((a && c) || (b || (a && not c))) ≡ (b || a)
 in_parts true true true = refl
@@ -106,9 +101,9 @@ module _ {K : Type 0} (R S : K → K → Ordering) (o : IsTotalOrder R) (exact :
       same_list S os exact_s (in_order S (with_item R xs q)) (with_item S (in_order S xs) q)
       (in_order-ascends S os exact_s (with_item R xs q)) (sorted-with_item S os (in_order S xs) q (in_order-ascends S os exact_s xs))
       (λ p. has-in_other (with_item R xs q) p ∙ has-with_item R o exact xs q p
-        ∙ ap (λ b. b || has R xs p) (same_eq p q)
-        ∙ ap (λ b. eq_by_cmp S p q || b) (sym (has-in_other xs p))
-        ∙ sym (has-with_item S os exact_s (in_order S xs) q p))
+      ∙ ap (λ b. b || has R xs p) (same_eq p q)
+      ∙ ap (λ b. eq_by_cmp S p q || b) (sym (has-in_other xs p))
+      ∙ sym (has-with_item S os exact_s (in_order S xs) q p))
 
   pub in_order-without_item : (xs : List K) (q : K) → in_order S (without_item R xs q) ≡ without_item S (in_order S xs) q
   in_order-without_item xs q =
@@ -116,9 +111,9 @@ module _ {K : Type 0} (R S : K → K → Ordering) (o : IsTotalOrder R) (exact :
       (in_order-ascends S os exact_s (without_item R xs q))
       (IsStrictlySortedBy-filter S (λ x. not (is_eq (S x q))) (in_order S xs) (in_order-ascends S os exact_s xs))
       (λ p. has-in_other (without_item R xs q) p ∙ has-without_item R o exact xs q p
-        ∙ ap (λ b. has R xs p && not b) (same_eq p q)
-        ∙ ap (λ b. b && not (eq_by_cmp S p q)) (sym (has-in_other xs p))
-        ∙ sym (has-without_item S os exact_s (in_order S xs) q p))
+      ∙ ap (λ b. has R xs p && not b) (same_eq p q)
+      ∙ ap (λ b. b && not (eq_by_cmp S p q)) (sym (has-in_other xs p))
+      ∙ sym (has-without_item S os exact_s (in_order S xs) q p))
 
   pub into_order : (xs : List K) (q : K) → Contains xs q → Contains (in_order S xs) q
   into_order xs q c = there S os exact_s (in_order S xs) q (has-in_order S os exact_s xs q ∙ has_there S os exact_s xs q c)

@@ -1,9 +1,10 @@
 -- The item that none is before: the first of a list in order, also where the list is told in another.
 use Rattle.std.proofs.Common.{◌≡◌, Bool, true, false, not, ◌||◌, cond, List, [], ◌∷◌, Some, None, refl, sym, ap, subst, ◌∙◌, ◌⊎◌, inl, inr}
 use mathlib.Core.Bool.{true≢false}
-use Rattle.std.specs.Prelude.{Contains, filter, find, list_any, slice_get}
+use Rattle.std.specs.Prelude.{Contains, filter, find, slice_get}
 use Rattle.std.specs.declared.cmp.Ordering.{Ordering}
 use Rattle.std.specs.declared.cmp.Ordering.TheVariants.{Less, Equal, Greater}
+use Rattle.std.specs.List.{list_any}
 use Rattle.std.specs.List.Sorted.{IsStrictlySortedBy}
 use Rattle.std.specs.Ordering.{is_lt, nat_cmp, ordering_then}
 use Rattle.std.specs.Cmp.{IsTotalOrder}
@@ -30,10 +31,13 @@ not_true : (b : Bool) → not b ≡ true → b ≡ false
 not_true true e = absurd (true≢false (sym e))
 not_true false e = refl
 
+no_item : {X : Type 0} (x : X) → None ≡ Some x → ⊥
+no_item x e = cc
+
 module _ {K : Type 0} (test : K → Bool) where
   none_passes : (xs : List K) → ((f : K) → Contains xs f → test f ≡ false) → list_any test xs ≡ false
   none_passes [] none = refl
-  none_passes (x ∷ xs) none = rw (none x (Contains-head x xs)) (none_passes xs (λ f later. none f (Contains-behind x f xs later)))
+  none_passes (x ∷ xs) none = ap (λ b. b || list_any test xs) (none x (Contains-head x xs)) ∙ none_passes xs (λ f later. none f (Contains-behind x f xs later))
 
   fails_there : (xs : List K) (f : K) → list_any test xs ≡ false → Contains xs f → test f ≡ false
   fails_there [] f e c = absurd (Contains-nil f c)
@@ -130,7 +134,7 @@ module _ {K : Type 0} (S : K → K → Ordering) (os : IsTotalOrder S) (exact_s 
     turn_found x e = by (filter (λ e. not (passed e)) xs) refl e
       where
         by : (zs : List K) → filter (λ e. not (passed e)) xs ≡ zs → slice_get zs 0 ≡ Some x → find (λ e. not (is_preceded turned xs e)) xs ≡ Some x
-        by [] is none = cc
+        by [] is none = absurd (no_item x none)
         by (z ∷ zs) is some = found_first z zs is ∙ some
 
     -- all meet it: the first of all
@@ -140,4 +144,4 @@ module _ {K : Type 0} (S : K → K → Ordering) (os : IsTotalOrder S) (exact_s 
         all : (f : K) → Contains xs f → (v : Bool) → passed f ≡ v → (zs : List K) → filter (λ e. not (passed e)) xs ≡ zs → slice_get zs 0 ≡ None → passed f ≡ true
         all f c true here zs is none = here
         all f c false here [] is none = absurd (Contains-nil f (subst (λ l. Contains l f) is (Contains-filter (λ e. not (passed e)) xs f c (ap not here))))
-        all f c false here (z ∷ zs) is none = cc
+        all f c false here (z ∷ zs) is none = absurd (no_item z (sym none))

@@ -72,7 +72,7 @@ impl<O: Ranking> PartialEq for Ranked<O> {
     ghost laws = { partial_equiv_from_equiv (eq_by_cmp_equiv O.total) };
 
     fn eq(&self, other: &Ranked<O>) -> bool {
-        O::compare(&self.entry, &other.entry).is_eq()
+        O::compare(self.entry(), other.entry()).is_eq()
     }
 }
 
@@ -86,7 +86,7 @@ impl<O: Ranking> PartialOrd for Ranked<O> {
     ghost laws = { partial_order_from_total O.total };
 
     fn partial_cmp(&self, other: &Ranked<O>) -> Option<Ordering> {
-        Some(O::compare(&self.entry, &other.entry))
+        Some(O::compare(self.entry(), other.entry()))
     }
 }
 
@@ -100,7 +100,7 @@ impl<O: Ranking> Ord for Ranked<O> {
     ghost matches_eq = { λ _ _. refl };
 
     fn cmp(&self, other: &Ranked<O>) -> Ordering {
-        O::compare(&self.entry, &other.entry)
+        O::compare(self.entry(), other.entry())
     }
 }
 
@@ -109,7 +109,7 @@ impl<O: Ranking> Like<Ranked<O>> for Entry {
     ghost stands_for = { λ e. e };
 
     fn order(&self, item: &Ranked<O>) -> Ordering {
-        O::compare(self, &item.entry)
+        O::compare(self, item.entry())
     }
 }
 

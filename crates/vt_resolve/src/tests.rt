@@ -32,7 +32,11 @@ fn entry(alloc: Global, told: Told) -> Result<Entry, NoMemory> {
 fn differ(a: &Entry, b: &Entry) -> bool
     ensures { result ≡ not (is_eq (by_activation a.now b.now)) }
 {
-    !a.rule.0.cmp(&b.rule.0).then(a.tuple.compare(&b.tuple)).is_eq()
+    !a.rule
+        .0
+        .cmp(&b.rule.0)
+        .then(a.tuple.compare(&b.tuple))
+        .is_eq()
 }
 
 // Holds two entries and no others. Another rule fired before.
@@ -128,8 +132,16 @@ fn inverted_negates_what_is_deleted(rt: HostRuntime) -> Result<(), Fail> {
     let cases = [
         (None, (2, 9, Created, 1, 9), (1, 1, Deleted, -2, 1)),
         (None, (2, 9, Deleted, 5, 9), (1, 1, Created, 1, 1)),
-        (None, (2, 9, Created, i64::MAX, 9), (1, 1, Deleted, i64::MIN, 1)),
-        (None, (1, 9, Created, i64::MAX, 9), (2, 1, Deleted, i64::MIN + 1, 1)),
+        (
+            None,
+            (2, 9, Created, i64::MAX, 9),
+            (1, 1, Deleted, i64::MIN, 1),
+        ),
+        (
+            None,
+            (1, 9, Created, i64::MAX, 9),
+            (2, 1, Deleted, i64::MIN + 1, 1),
+        ),
         (Some(1), (1, 1, Deleted, 0, 9), (1, 2, Created, 0, 1)),
     ];
     assert_eq!(rt; first_unmet(alloc, &mut resolver, &cases)?, None);
