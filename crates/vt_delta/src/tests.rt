@@ -8,67 +8,78 @@ fn row(alloc: Global, number: i64) -> Result<Tuple, NoMemory> {
     Tuple::from_slice(alloc, &[Value::Int(number)])
 }
 
-fn rows(alloc: Global, numbers: &[i64]) -> Result<Rows, NoMemory> {
+// The numbers that stand in a text.
+fn numbers(alloc: Global, text: &str) -> Result<Vec<i64>, NoMemory> {
+    let mut found = Vec::new(alloc);
+    for word in text.split(' ') {
+        if let Ok(number) = word.parse::<i64>() {
+            found.push(number)?;
+        }
+    }
+    Ok(found)
+}
+
+fn rows(alloc: Global, text: &str) -> Result<Rows, NoMemory> {
     let mut tuples = Vec::new(alloc);
-    for number in numbers {
-        tuples.push(row(alloc, *number)?)?;
+    for number in numbers(alloc, text)? {
+        tuples.push(row(alloc, number)?)?;
     }
     Rows::from_vec(alloc, tuples)
 }
 
 // Whether these are the rows, and no others.
-fn are(alloc: Global, found: &Rows, numbers: &[i64]) -> Result<bool, NoMemory> {
-    let mut same = found.len() == numbers.len();
-    for number in numbers {
-        same = same && found.contains(&row(alloc, *number)?);
+fn are(alloc: Global, found: &Rows, text: &str) -> Result<bool, NoMemory> {
+    let wanted = rows(alloc, text)?;
+    let mut walk = wanted.walk();
+    let mut same = found.len() == wanted.len();
+    while let Some(row) = walk.next() {
+        same = same && found.contains(row);
     }
     Ok(same)
 }
 
 // Whether these came, and these went.
-fn is(alloc: Global, delta: &Delta, added: &[i64], removed: &[i64]) -> Result<bool, NoMemory> {
-    let came = are(alloc, &delta.added, added)?;
-    let went = are(alloc, &delta.removed, removed)?;
-    Ok(came && went)
+fn is(alloc: Global, delta: &Delta, added: &str, removed: &str) -> Result<bool, NoMemory> {
+    Ok(are(alloc, &delta.added, added)? && are(alloc, &delta.removed, removed)?)
 }
 
-fn net(alloc: Global, before: &[i64], after: &[i64]) -> Result<Delta, NoMemory> {
-    let first = rows(alloc, before)?;
-    let second = rows(alloc, after)?;
-    Delta::net(alloc, &first, &second)?.copy(alloc)
+// A text in four: what stands before each bar, and behind the last.
+fn quarters(line: &str) -> [&str; 4] {
+    let mut parts = line.split('|');
+    [(); 4].map(|_| parts.next().unwrap_or(""))
 }
 
 // Whether the net change of two sets is this one, and leads from the first to the second.
-fn leads(alloc: Global, sets: [&[i64]; 4]) -> Result<bool, NoMemory> {
-    let [before, after, added, removed] = sets;
-    let delta = net(alloc, before, after)?;
-    let led = delta.apply(alloc, &rows(alloc, before)?)?;
-    Ok(is(alloc, &delta, added, removed)? && are(alloc, &led, after)?)
+fn leads(alloc: Global, line: &str) -> Result<bool, NoMemory> {
+    let [first, second, added, removed] = quarters(line);
+    let before = rows(alloc, first)?;
+    let delta = Delta::net(alloc, &before, &rows(alloc, second)?)?.copy(alloc)?;
+    let led = delta.apply(alloc, &before)?;
+    let known = is(alloc, &delta, added, removed)? && are(alloc, &led, second)?;
+    Ok(known && delta.is_empty() == (first == second))
 }
+
+// Before, after, what came, what went.
+const NET: &str = "1 2 3|2 4|4|1 3
+|5 6|5 6|
+5 6|||5 6
+1 2|1 2||
+1 2|1||2";
 
 #[test]
 fn a_net_delta_leads_from_the_rows_before_to_those_after(rt: HostRuntime) -> Result<(), Fail> {
-    // Before, after, what came, what went.
-    let cases: [[&[i64]; 4]; 4] = [
-        [&[1, 2, 3], &[2, 4], &[4], &[1, 3]],
-        [&[], &[5, 6], &[5, 6], &[]],
-        [&[5, 6], &[], &[], &[5, 6]],
-        [&[1, 2], &[1, 2], &[], &[]],
-    ];
-    for sets in cases {
-        assert!(rt; leads(rt.alloc(), sets)?);
+    for line in NET.lines() {
+        assert!(rt; leads(rt.alloc(), line)?, "{line}");
     }
-    assert!(rt; net(rt.alloc(), &[1, 2], &[1, 2])?.is_empty());
-    assert!(rt; !net(rt.alloc(), &[1, 2], &[1])?.is_empty());
     Ok(())
 }
 
 // The change after some rows came, and those with a number below 0 went.
-fn moved(alloc: Global, moves: &[i64]) -> Result<Delta, NoMemory> {
+fn moved(alloc: Global, moves: &str) -> Result<Delta, NoMemory> {
     let mut delta = Delta::new(alloc);
-    for number in moves {
+    for number in numbers(alloc, moves)? {
         let moving = row(alloc, number.wrapping_abs())?;
-        if *number > 0 {
+        if number > 0 {
             delta.row_comes(moving)?;
         } else {
             delta.row_goes(moving)?;
@@ -77,24 +88,24 @@ fn moved(alloc: Global, moves: &[i64]) -> Result<Delta, NoMemory> {
     Ok(delta)
 }
 
-fn leaves(alloc: Global, moves: &[i64], added: &[i64], removed: &[i64]) -> Result<bool, NoMemory> {
+fn leaves(alloc: Global, line: &str) -> Result<bool, NoMemory> {
+    let [moves, added, removed, _] = quarters(line);
     is(alloc, &moved(alloc, moves)?, added, removed)
 }
 
+// The moves, what came, what went.
+const MOVES: &str = "||
+1 -1||
+1 -2|1|2
+1 -2 -1||2
+1 -2 -1 2||
+1 -2 -1 2 2 -1|2|1";
+
 #[test]
 fn rows_that_come_and_go_again_leave_no_trace(rt: HostRuntime) -> Result<(), Fail> {
-    // The moves, what came, what went.
-    let cases: [[&[i64]; 3]; 5] = [
-        [&[], &[], &[]],
-        [&[1, -2], &[1], &[2]],
-        [&[1, -2, -1], &[], &[2]],
-        [&[1, -2, -1, 2], &[], &[]],
-        [&[1, -2, -1, 2, 2, -1], &[2], &[1]],
-    ];
-    for [moves, added, removed] in cases {
-        assert!(rt; leaves(rt.alloc(), moves, added, removed)?);
+    for line in MOVES.lines() {
+        assert!(rt; leaves(rt.alloc(), line)?, "{line}");
     }
-    assert!(rt; moved(rt.alloc(), &[1, -1])?.is_empty());
     Ok(())
 }
 
@@ -103,8 +114,8 @@ fn ends(alloc: Global) -> Result<[bool; 3], NoMemory> {
     let mut change = BaseDelta::none(alloc, 1, 1, 4000);
     change.references.row_comes(3999, row(alloc, 8)?)?;
     change.references.row_goes(0, row(alloc, 7)?)?;
-    let first = is(alloc, change.reference(RefId(0)), &[], &[7])?;
-    let last = is(alloc, change.reference(RefId(3999)), &[8], &[])?;
+    let first = is(alloc, change.reference(RefId(0)), "", "7")?;
+    let last = is(alloc, change.reference(RefId(3999)), "8", "")?;
     let still = change.reference(RefId(3998)).is_empty();
     Ok([first, last, still])
 }
@@ -114,8 +125,8 @@ fn of_each_kind(alloc: Global) -> Result<[bool; 3], NoMemory> {
     let mut change = BaseDelta::none(alloc, 3, 2, 1);
     change.classes.row_comes(1, row(alloc, 7)?)?;
     change.attributes.row_goes(0, row(alloc, 8)?)?;
-    let came = is(alloc, change.class(ClassId(1)), &[7], &[])?;
-    let went = is(alloc, change.attr(AttrId(0)), &[], &[8])?;
+    let came = is(alloc, change.class(ClassId(1)), "7", "")?;
+    let went = is(alloc, change.attr(AttrId(0)), "", "8")?;
     let still = change.class(ClassId(0)).is_empty() && change.attr(AttrId(1)).is_empty();
     Ok([came, went, still])
 }
@@ -130,11 +141,11 @@ fn a_row_is_seen_at_its_number_alone(rt: HostRuntime) -> Result<(), Fail> {
 // Whether deltas that are handed over stay, and move on.
 fn handed_over(alloc: Global) -> Result<[bool; 2], NoMemory> {
     let mut list = List::new(alloc);
-    list.add(net(alloc, &[1], &[2])?)?;
+    list.add(Delta::net(alloc, &rows(alloc, "1")?, &rows(alloc, "2")?)?)?;
     let mut deltas = Deltas::from_list(list);
-    let stayed = is(alloc, deltas.get(0), &[2], &[1])?;
+    let stayed = is(alloc, deltas.get(0), "2", "1")?;
     deltas.row_comes(0, row(alloc, 1)?)?;
-    Ok([stayed, is(alloc, deltas.get(0), &[2], &[])?])
+    Ok([stayed, is(alloc, deltas.get(0), "2", "")?])
 }
 
 #[test]
