@@ -1,7 +1,13 @@
 use Rattle.std.proofs.Common.{rules}
+<<<<<<<< HEAD:crates/vt_syntax/proofs/words/feature_name/Answers.antt
 use Rattle.vt_syntax.proofs.NameLemmas.{name_read, name_fails, name_missing}
 use Rattle.vt_syntax.proofs.words.feature_name.Goals as goal
 use Rattle.vt_syntax.proofs.words.feature_name.Goals.{in_default-via-in-Some+else-is_word, in_default-via-in_default}
+========
+use Rattle.vt_text.proofs.NameLemmas.{name_read, name_fails, name_missing}
+use Rattle.vt_text.proofs.words.feature_name.Goals as goal
+use Rattle.vt_text.proofs.words.feature_name.Goals.{in_default-via-in-Some+else-is_word, in_default-via-in_default}
+>>>>>>>> f0bb01139dc7bfb2718872804f847bf18e370f30:crates/vt_text/proofs/words/feature_name/Answers.antt
 
 -- a word is next
 pub returns-in-Some : goal.returns-in-Some

@@ -1,13 +1,13 @@
 -- What is read as a string is one.
-use Rattle.std.proofs.Common.{◌≡◌, ◌↔◌, ℕ, Bool, true, false, cond, List, [], ◌∷◌, ◌++◌, Option, Some, None, refl, ◌∙◌, ap, subst}
+use Rattle.std.proofs.Common.{◌≡◌, ◌↔◌, ◌≢◌, ℕ, Bool, true, false, cond, List, [], ◌∷◌, ◌++◌, Option, Some, None, refl, ◌∙◌, ap, subst}
 use Rattle.std.specs.Prelude.{◌==◌}
+use Rattle.std.proofs.lemmas.Bool.{ne_eqb}
 use Rattle.vt_facts.specs.Parts.{with_front, ◌>>=◌}
 use Rattle.vt_facts.proofs.NumberLemmas.{equal_numbers}
 use Rattle.vt_text.specs.Lexicon.{is_plain, escaped, Writes}
 use Rattle.vt_text.specs.Lexicon.Writes.{nothing, plain, escape}
-use Rattle.vt_script.specs.Words.{unquoted, at_end, quoted}
-use Rattle.vt_script.specs.Formed.{IsStringOf}
-use Rattle.vt_script.proofs.StringLemmas.{plain_byte}
+use Rattle.vt_text.specs.Quoting.{unquoted, at_end, quoted, IsStringOf}
+use Rattle.vt_text.proofs.UnquotedLemmas.{plain_byte}
 
 -- ---- what is written is read
 
@@ -68,3 +68,13 @@ string_is (b ∷ bytes) text e =
 
 pub strings : (bytes text : List ℕ) → (quoted bytes ≡ Some text) ↔ IsStringOf bytes text
 strings bytes text = (string_is bytes text, λ s. ap quoted s.quotes ∙ reads s.writes)
+
+-- ---- the quote in front
+
+-- a string begins with a quote
+pub not_quoted : (bytes : List ℕ) → ((rest : List ℕ) → bytes ≢ 34 ∷ rest) → quoted bytes ≡ None
+not_quoted [] none = refl
+not_quoted (b ∷ bs) none = rw (ne_eqb b 34 (λ e. none bs (ap (λ x. x ∷ bs) e))) refl
+
+pub behind : (bytes rest : List ℕ) → bytes ≡ 34 ∷ rest → quoted bytes ≡ unquoted rest
+behind bytes rest e = ap quoted e

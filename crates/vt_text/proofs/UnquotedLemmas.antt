@@ -12,7 +12,7 @@ use Rattle.vt_facts.specs.Parts.{with_front, ◌>>=◌}
 use Rattle.vt_facts.proofs.BoolLemmas.{or_none, not_true}
 use Rattle.vt_facts.proofs.NumberLemmas.{equal_numbers}
 use Rattle.vt_text.specs.Lexicon.{is_plain, escaped}
-use Rattle.vt_script.specs.Words.{unquoted, unescaped}
+use Rattle.vt_text.specs.Quoting.{unquoted, unescaped}
 
 front_nil : (o : Option (List ℕ)) → with_front [] o ≡ o
 front_nil None = refl
