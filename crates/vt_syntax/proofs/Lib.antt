@@ -1,4 +1,3 @@
-pub mod DigitLemmas
-pub mod NameLemmas
+pub mod ExpressionLemmas
 pub mod ReaderLemmas
 pub mod PartLemmas

@@ -7,11 +7,11 @@ use Rattle.vt_grammar.specs.Gives.{ahead}
 use Rattle.vt_grammar.specs.Forms.{applied}
 use Rattle.vt_grammar.proofs.ExactLemmas.{ok_same, not_ok}
 use Rattle.vt_grammar.proofs.RollLemmas.{ahead_nil}
-use Rattle.vt_syntax.specs.Words.{identifier}
+use Rattle.vt_text.specs.Words.{identifier}
 use Rattle.vt_syntax.specs.Rules.{annotation, import_line}
 use Rattle.vt_syntax.specs.Inside.Factored.{name_rest, named, plain, comparison, compared_rest, constraint_rest, named_constraint, plain_constraint, line, pattern}
 use Rattle.vt_syntax.specs.declared.tree.TermTree.{TermTree}
-use Rattle.vt_syntax.proofs.NameLemmas.{named_rest, rest_fails}
+use Rattle.vt_text.proofs.NameLemmas.{named_rest, rest_fails}
 
 -- ---- a term, whose rest is a function of the name before it
 

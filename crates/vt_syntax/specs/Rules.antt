@@ -6,7 +6,8 @@ use Rattle.vt_grammar.specs.declared.symbol.Symbol.TheVariants as symbol
 use Rattle.vt_grammar.specs.declared.lexeme.Lexeme.{Lexeme}
 use Rattle.vt_grammar.specs.Grammar.{Grammar, token, alt, star, made, balanced}
 use Rattle.vt_grammar.specs.Forms.{◌&◌, after, before, separated, some_of, maybe}
-use Rattle.vt_syntax.specs.Words.{identifier, feature_name, number, string}
+use Rattle.vt_syntax.specs.Expressions.{expression_of}
+use Rattle.vt_text.specs.Words.{identifier, feature_name, number, string}
 use Rattle.vt_syntax.specs.declared.tree.FileTree.{FileTree}
 use Rattle.vt_syntax.specs.declared.tree.PatternTree.{PatternTree}
 use Rattle.vt_syntax.specs.declared.tree.ParamTree.{ParamTree}
@@ -82,7 +83,7 @@ type_name = alt (made type_tree.Named identifier) java_type
 
 -- "(" balanced ")" behind `check` or `eval`
 abbrev pub code : Symbol → Grammar CodeTree
-code word = made (λ x. record { line = x.0.line; lexemes = x.1.1.0 })
+code word = made (λ x. record { line = x.0.line; expr = expression_of x.1.1.0 })
     (token word & token symbol.LeftParen & balanced & token symbol.RightParen)
 
 -- arg = term | "#" [ ID ]

@@ -5,32 +5,27 @@ ghost use Rattle.vt_grammar.specs.Forms.{maybe, some_of, separated};
 ghost use Rattle.vt_grammar.specs.Reading.{read as reading, first, starts};
 ghost use Rattle.vt_grammar.specs.Gives.{Gives};
 ghost use Rattle.vt_grammar.specs.declared.symbol.Symbol.TheVariants as symbol;
-ghost use Rattle.vt_syntax.specs.Words.{identifier};
+ghost use Rattle.vt_text.specs.Words.{identifier};
+ghost use Rattle.vt_syntax.specs.Expressions.{expression_of};
 ghost use Rattle.vt_syntax.specs.Rules.{code, column, closure, agg, aggregate_with};
 ghost use Rattle.vt_syntax.specs.Inside.Factored.{arg, call, right};
 
 use crate::terms::term;
-use crate::words::identifier;
 use crate::{AggTree, ArgTree, CallTree, CodeTree, RightTree};
 use std::alloc::Global;
 use vt_base::{AggKind, List, NoMemory, Text};
 use vt_grammar::{Lexeme, Member, Stop, Symbol, balanced, is_next, more, one};
+use vt_text::{ExprTree, expr_tree, identifier};
 
-// ---- expressions, whose lexemes are kept
+// ---- expressions
 
-// The same lexemes once more.
-fn copies(alloc: Global, lexemes: &[Lexeme]) -> Result<List<Lexeme>, NoMemory>
-    ensures { IfOk result (λ copies. copies ≡ lexemes.now) }
+// The expression that lexemes spell, where they spell one.
+#[tactic(auto, using(crate::proofs::ExpressionLemmas::spelled_is, crate::proofs::ExpressionLemmas::none_is))]
+fn expression(alloc: Global, lexemes: &[Lexeme]) -> Result<Option<ExprTree>, NoMemory>
+    ensures { IfOk result (λ expr. expr ≡ expression_of lexemes.now) }
 {
-    let mut copies = List::new(alloc);
-    for lexeme in lexemes {
-        copies.add(Lexeme {
-            symbol: lexeme.symbol,
-            text: lexeme.text.share(),
-            line: lexeme.line,
-        })?;
-    }
-    Ok(copies)
+    let expr = expr_tree(alloc, lexemes, false)?;
+    Ok(expr)
 }
 
 /// A word and what stands in parentheses behind it, and the lexemes after it.
@@ -47,8 +42,8 @@ pub(crate) fn code(
     let (_, rest) = one(rest, Symbol::LeftParen)?;
     let (inner, rest) = balanced(alloc, rest)?;
     let (_, rest) = one(rest, Symbol::RightParen)?;
-    let lexemes = copies(alloc, inner)?;
-    Ok((CodeTree { line, lexemes }, rest))
+    let expr = expression(alloc, inner)?;
+    Ok((CodeTree { line, expr }, rest))
 }
 
 // ---- arguments

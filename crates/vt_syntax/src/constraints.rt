@@ -5,17 +5,17 @@ ghost use Rattle.vt_grammar.specs.Forms.{applied, separated};
 ghost use Rattle.vt_grammar.specs.Reading.{read as reading, first, starts};
 ghost use Rattle.vt_grammar.specs.Gives.{Gives};
 ghost use Rattle.vt_grammar.specs.declared.symbol.Symbol.TheVariants as symbol;
-ghost use Rattle.vt_syntax.specs.Words.{feature_name};
+ghost use Rattle.vt_text.specs.Words.{feature_name};
 ghost use Rattle.vt_syntax.specs.Rules.{enclosed_with, find_with, check};
 ghost use Rattle.vt_syntax.specs.Inside.Factored.{term, call, equal_rest, differ_rest, comparison, type_rest, path_rest, compared_rest, constraint_rest, named_constraint, plain_constraint, java_constraint, constraint, line, body};
 
 use crate::calls::{call, code, right};
 use crate::terms::{java_type, name_rest, plain, term};
-use crate::words::{feature_name, identifier};
 use crate::{BodyTree, ConstraintTree, TermTree, TypeTree};
 use std::alloc::Global;
 use vt_base::{List, Text};
 use vt_grammar::{Lexeme, Member, Stop, Symbol, is_next, more, one};
+use vt_text::{feature_name, identifier};
 
 // ---- what follows a term
 
@@ -87,7 +87,7 @@ impl Member for FurtherFeature {
     ghost use Rattle.vt_grammar.specs.Grammar.{token};
     ghost use Rattle.vt_grammar.specs.Forms.{after};
     ghost use Rattle.vt_grammar.specs.declared.symbol.Symbol.TheVariants as symbol;
-    ghost use Rattle.vt_syntax.specs.Words.{feature_name};
+    ghost use Rattle.vt_text.specs.Words.{feature_name};
 
     type Value = Text;
 

@@ -12,11 +12,11 @@ ghost use Rattle.vt_syntax.specs.declared.tree.FileTree.{FileTree};
 
 use crate::patterns::pattern;
 use crate::terms::qualified_name;
-use crate::words::string;
 use crate::{FileTree, PatternTree};
 use std::alloc::Global;
 use vt_base::{List, Text};
 use vt_grammar::{Lexeme, Member, Spelled, Stop, Symbol, is_next, more, one, whole};
+use vt_text::string;
 
 impl Spelled for FileTree {
     ghost use Rattle.std.specs.Prelude.{refl};

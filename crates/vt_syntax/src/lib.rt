@@ -1,6 +1,6 @@
 //! Query files as they are written: their grammar, and how lexemes are read by it.
 //!
-//! It stands on `vt_grammar` and `vt_text`. Read `specs/Words.antt`, `specs/Rules.antt`, then
+//! It stands on `vt_grammar` and `vt_text`. Read `specs/Expressions.antt`, `specs/Rules.antt`, then
 //! `specs/Parts.antt`.
 #![tactic(auto)]
 
@@ -12,7 +12,6 @@ mod constraints;
 mod file;
 mod patterns;
 mod terms;
-mod words;
 // What holds of every list of lexemes.
 mod laws;
 
@@ -23,9 +22,8 @@ pub use tree::{
 };
 // From the lexemes of a file to its tree.
 pub use file::read_file;
-pub use words::{feature_name, identifier, number, string};
 // What holds of every list of lexemes.
-pub use laws::{balanced_is_longest, part_goes_on};
+pub use laws::{balanced_is_longest, expression_is_spelled, part_goes_on};
 
 #[cfg(test)]
 mod tests;

@@ -10,11 +10,11 @@ ghost use Rattle.vt_syntax.specs.Inside.Factored.{body, pattern};
 
 use crate::constraints::body;
 use crate::terms::type_name;
-use crate::words::identifier;
 use crate::{BodyTree, ParamTree, PatternTree, TypeTree};
 use std::alloc::Global;
 use vt_base::{List, Text};
 use vt_grammar::{Lexeme, Member, Stop, Symbol, balanced, is_next, more, one};
+use vt_text::identifier;
 
 // ---- parameters
 

@@ -6,11 +6,11 @@ ghost use Rattle.vt_grammar.specs.Gives.{Gives};
 ghost use Rattle.vt_syntax.specs.Rules.{qualified_name, integer, truth, java_type, type_name};
 ghost use Rattle.vt_syntax.specs.Inside.Factored.{literal_rest, name_rest, named, plain, term};
 
-use crate::words::{feature_name, identifier, number, string};
 use crate::{TermTree, TypeTree};
 use std::alloc::Global;
 use vt_base::{List, Text};
 use vt_grammar::{Lexeme, Member, Stop, Symbol, is_next, more, one};
+use vt_text::{feature_name, identifier, number, string};
 
 // ---- names with dots
 
@@ -22,7 +22,7 @@ impl Member for FurtherName {
     ghost use Rattle.vt_grammar.specs.Grammar.{token};
     ghost use Rattle.vt_grammar.specs.Forms.{after};
     ghost use Rattle.vt_grammar.specs.declared.symbol.Symbol.TheVariants as symbol;
-    ghost use Rattle.vt_syntax.specs.Words.{identifier};
+    ghost use Rattle.vt_text.specs.Words.{identifier};
 
     type Value = Text;
 

@@ -1,7 +1,8 @@
 //! Texts with what they spell as query files, in outline, or how many lexemes are left at their fault.
 //! In a table each line is a case.
 use crate::{
-    BodyTree, ConstraintTree, FileTree, PatternTree, RightTree, balanced_is_longest, part_goes_on,
+    BodyTree, ConstraintTree, FileTree, PatternTree, RightTree, balanced_is_longest,
+    expression_is_spelled, part_goes_on,
     read_file,
 };
 use std::alloc::Global;
@@ -101,5 +102,6 @@ fn files_are_read_or_their_fault_is_found(rt: HostRuntime) -> Result<(), Fail> {
 fn files_have_the_laws(rt: HostRuntime) -> Result<(), Fail> {
     part_goes_on();
     balanced_is_longest();
+    expression_is_spelled();
     Ok(())
 }

@@ -1,6 +1,6 @@
 // Query files as they are written.
 use vt_base::{AggKind, List, Text};
-use vt_grammar::Lexeme;
+use vt_text::ExprTree;
 
 /// A query file. Its package means nothing, and isn't kept.
 #[derive(Debug, Drop)]
@@ -86,11 +86,12 @@ pub enum AggTree {
     Count(u32),
 }
 
-/// What stands between the parentheses of a `check` or an `eval`, and the line of that word.
+/// What stands between the parentheses of a `check` or an `eval`, and the line of that word. `None`
+/// is of what is no expression.
 #[derive(Debug, Drop)]
 pub struct CodeTree {
     pub line: u32,
-    pub lexemes: List<Lexeme>,
+    pub expr: Option<ExprTree>,
 }
 
 /// A call of a pattern.

@@ -5,7 +5,7 @@ use Rattle.vt_grammar.specs.Grammar.{Grammar, token, alt, made}
 use Rattle.vt_grammar.specs.Forms.{◌&◌, separated, some_of}
 use Rattle.vt_grammar.specs.SameAs.{SameAs}
 use Rattle.vt_grammar.specs.Inside.SameLaws.{same_itself, same_seq, same_made, same_alt, same_star, same_after, same_before, same_separated, same_some_of}
-use Rattle.vt_syntax.specs.Words.{identifier, feature_name}
+use Rattle.vt_text.specs.Words.{identifier, feature_name}
 use Rattle.vt_syntax.specs.Rules.{java_type, type_name, column, closure, agg, code, find_with, check, enclosed_with, ends_with, path_of, call_with, aggregate_with, right_with, body_with, pattern_with, file_with, annotation, shown, param, package_line, import_line}
 use Rattle.vt_syntax.specs.Rules as rule
 use Rattle.vt_syntax.specs.Inside.Factored.{literal_rest, variable_rest, named, plain, equal_rest, differ_rest, comparison, type_rest, path_rest, compared_rest, constraint_rest, named_constraint, plain_constraint, java_constraint}
