@@ -52,7 +52,7 @@ fn meant_by(alloc: Global, scope: &Scope<'_>, expr: &ExprTree) -> Result<Meant, 
 }
 
 /// What a `check` or an `eval` means, where it is an expression.
-pub(crate) fn meant(
+pub(crate) fn code_meant(
     alloc: Global,
     scope: &Scope<'_>,
     expr: &Option<ExprTree>,

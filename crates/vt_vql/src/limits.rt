@@ -6,7 +6,7 @@ ghost use Rattle.vt_vql.specs.Faults.{size_of, typed_count, is_small_body, is_sm
 ghost use Rattle.vt_vql.specs.Variables.{variables_of};
 
 use crate::occurrences::variables_of;
-use crate::seen::seen;
+use crate::seen::seen_in;
 use std::alloc::Global;
 use vt_base::NoMemory;
 use vt_syntax::{BodyTree, ConstraintTree, ParamTree, PatternTree};
@@ -60,7 +60,7 @@ fn is_small_body(alloc: Global, params: &[ParamTree], body: &BodyTree) -> Result
     if !has_few_constraints(typed_count(params), body.constraints.as_slice()) {
         return Ok(false);
     }
-    let seen = seen(alloc, params, body)?;
+    let seen = seen_in(alloc, params, body)?;
     let variables = variables_of(alloc, &seen, params, body)?;
     Ok(variables.is_some())
 }

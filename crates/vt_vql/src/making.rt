@@ -5,7 +5,7 @@ ghost use Rattle.vt_vql.specs.Inside.Resolved.{Makes, adds};
 ghost use Rattle.vt_facts.specs.Parts.{with_front};
 ghost use Rattle.vt_vql.specs.Inside.Scopes.{seen_as, IsScope};
 
-use crate::expressions::meant;
+use crate::expressions::code_meant;
 use crate::fault::Stuck;
 use crate::meanings::{Step, steps, type_of};
 use crate::scope::{Scope, find_args, open_args, pattern_id, term_at, variable};
@@ -147,7 +147,7 @@ fn equal_to(
             Ok(Constraint::Equal(left, right))
         }
         RightTree::Eval(code) => {
-            let meant = meant(alloc, scope, &code.expr)?;
+            let meant = code_meant(alloc, scope, &code.expr)?;
             Ok(Constraint::Eval {
                 result: left,
                 expr: meant.expr,
@@ -214,7 +214,7 @@ fn single(
         ConstraintTree::Find(call) => find(alloc, scope, i, call),
         ConstraintTree::Neg(call) => neg(alloc, scope, call),
         ConstraintTree::Check(code) => {
-            let meant = meant(alloc, scope, &code.expr)?;
+            let meant = code_meant(alloc, scope, &code.expr)?;
             Ok(Constraint::Check {
                 expr: meant.expr,
                 slots: meant.slots,

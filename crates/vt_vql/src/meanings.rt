@@ -76,7 +76,7 @@ fn leads_to(meta: &Metamodel, feature: Feature) -> Option<ClassId>
 }
 
 // The feature of this name of a class, where there are both.
-fn step(meta: &Metamodel, class: Option<ClassId>, name: &Text) -> Option<Step>
+fn step_at(meta: &Metamodel, class: Option<ClassId>, name: &Text) -> Option<Step>
     ensures { result ≡ step_at meta.now class name.now }
 {
     let class = class?;
@@ -90,7 +90,7 @@ pub(crate) fn knows_path(meta: &Metamodel, class: &Text, features: &[Text]) -> b
 {
     let mut next = meta.class_named(class.as_str());
     for name in features {
-        let Some(step) = step(meta, next, name) else {
+        let Some(step) = step_at(meta, next, name) else {
             return false;
         };
         next = leads_to(meta, step.feature);
@@ -110,7 +110,7 @@ pub(crate) fn steps(
     let mut steps = List::new(alloc);
     let mut next = meta.class_named(class.as_str());
     for name in features {
-        let Some(step) = step(meta, next, name) else {
+        let Some(step) = step_at(meta, next, name) else {
             return Err(Stuck::Faulty);
         };
         next = leads_to(meta, step.feature);

@@ -154,7 +154,7 @@ fn add_params(all: &mut List<Variable>, params: &[ParamTree]) -> Result<(), NoMe
     Ok(())
 }
 
-fn occurrences(
+fn all_variables(
     alloc: Global,
     seen: &Seen,
     params: &[ParamTree],
@@ -184,6 +184,6 @@ pub(crate) fn variables_of(
         (64 < length (variables_of params.now body.now))
         (λ variables. (variables ≡ variables_of params.now body.now) × (length variables ≤ 64))) }
 {
-    let all = occurrences(alloc, seen, params, body.constraints.as_slice())?;
+    let all = all_variables(alloc, seen, params, body.constraints.as_slice())?;
     distinct(alloc, all.as_slice())
 }

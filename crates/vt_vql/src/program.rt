@@ -13,7 +13,7 @@ use crate::making::add_constraints;
 use crate::meanings::type_of;
 use crate::occurrences::variables_of;
 use crate::scope::Scope;
-use crate::seen::seen;
+use crate::seen::seen_in;
 use crate::table::Table;
 use std::alloc::Global;
 use vt_base::{List, NoMemory};
@@ -100,7 +100,7 @@ fn body(
     ensures { MakesWithin result (fits_body params.now tree.now)
         (body_of meta.now table.now.trees.now params.now typed.now tree.now) }
 {
-    let seen = seen(alloc, params, tree)?;
+    let seen = seen_in(alloc, params, tree)?;
     let Some(variables) = variables_of(alloc, &seen, params, tree)? else {
         return Err(Stuck::Faulty);
     };

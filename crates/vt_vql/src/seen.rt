@@ -139,7 +139,7 @@ fn count_all(
 }
 
 /// What is seen of the names of a body.
-pub(crate) fn seen(
+pub(crate) fn seen_in(
     alloc: Global,
     params: &[ParamTree],
     body: &BodyTree,

@@ -2,7 +2,7 @@ use Rattle.std.proofs.Common.{◌≡◌, ◌++◌, drop}
 use Rattle.vt_vql.specs.Places.{each_gives}
 use Rattle.vt_vql.specs.Variables.{variables_in}
 use Rattle.vt_vql.specs.Inside.Resolved.{tells}
-use Rattle.vt_vql.proofs.occurrences.occurrences.Given as goal
+use Rattle.vt_vql.proofs.occurrences.all_variables.Given as goal
 
 -- what is out, and what the rest gives, is what the whole gives
 abbrev pub invariant-loop-i : goal.invariant-loop-i
