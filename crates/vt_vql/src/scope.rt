@@ -20,6 +20,7 @@ use vt_syntax::{ArgTree, TermTree};
 
 /// Where a constraint stands: the patterns of the file, the variables of its body, and what is seen
 /// of their names.
+#[derive(Drop)]
 pub(crate) struct Scope<'a> {
     pub meta: &'a Metamodel,
     pub table: &'a Table<'a>,

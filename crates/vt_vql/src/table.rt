@@ -10,6 +10,7 @@ use vt_model::{Places, places_of};
 use vt_syntax::PatternTree;
 
 /// The patterns of a file, and their places by their names.
+#[derive(Drop)]
 pub(crate) struct Table<'a> {
     pub places: &'a Places,
     pub trees: &'a [PatternTree],
