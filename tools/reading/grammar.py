@@ -142,11 +142,7 @@ class Parser:
         made = Pattern(name.text, name, is_private)
         made.annotations = annotations
         self.mark("(")
-        if not self.here.is_(")"):
-            made.params.append(self.param())
-            while self.here.is_(","):
-                self.take()
-                made.params.append(self.param())
+        made.params = self.listed(self.param)
         self.mark(
             ")",
             "a type stands behind the name, as `s: Segment`, and parameters are separated by commas"
@@ -158,6 +154,16 @@ class Parser:
             self.take()
             made.bodies.append(self.body())
         return made
+
+    def listed(self, item):
+        """What stands in parentheses, separated by commas, up to what closes them."""
+        items = []
+        if not self.here.is_(")"):
+            items.append(item())
+            while self.here.is_(","):
+                self.take()
+                items.append(item())
+        return items
 
     def param(self):
         name = self.id("a parameter's name")
@@ -327,11 +333,7 @@ class Parser:
         if self.here.is_("+", "*"):
             made.closure = self.take()
         self.mark("(")
-        if not self.here.is_(")"):
-            made.args.append(self.arg())
-            while self.here.is_(","):
-                self.take()
-                made.args.append(self.arg())
+        made.args = self.listed(self.arg)
         self.mark(")")
         return made
 
