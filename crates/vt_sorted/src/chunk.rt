@@ -7,7 +7,7 @@ ghost use Rattle.vt_sorted.specs.Inside.Places.{StandsAt, GoesAt, EndsAt};
 ghost use Rattle.vt_sorted.specs.Inside.Pieces.{begins_after};
 
 use crate::front::end_of;
-use crate::{Front, NoMemory};
+use crate::{Front, Like, NoMemory};
 use std::alloc::Global;
 use std::marker::Model;
 
@@ -44,13 +44,13 @@ impl<T> Chunk<T> {
         Ok(Chunk { items })
     }
 
-    /// A chunk of items that have their block.
-    pub fn from_vec(items: Vec<T>) -> Chunk<T>
-        requires block { 64 ≤ vec_capacity items }
-        requires fits { vec_len items ≤ 64 }
-        ensures { result ≡ items.items }
+    /// Takes all items of a vector to an empty chunk.
+    pub fn take_all(&mut self, items: &mut Vec<T>)
+        requires empty { self.old ≡ [] }
+        requires fits { vec_len items.old ≤ 64 }
+        ensures { self.new ≡ items.old.items }
     {
-        Chunk { items }
+        self.items.append(items).unwrap()
     }
 
     pub fn len(&self) -> usize
@@ -89,15 +89,6 @@ impl<T> Chunk<T> {
         ensures value { result ≡ slice_index_or self.old at result }
     {
         self.items.remove(at)
-    }
-
-    /// Lets go of all items.
-    pub fn clear(&mut self)
-    where
-        T: Drop,
-        ensures { self.new ≡ [] }
-    {
-        self.items.clear()
     }
 
     /// Takes all items of another chunk to the end, where there is room.
@@ -153,13 +144,13 @@ impl<T> Chunk<T> {
 }
 
 impl<T: Ord> Chunk<T> {
-    /// Where the item stands, or else would.
-    pub fn find(&self, item: &T) -> Result<usize, usize>
+    /// Where the item of a key stands, or else would.
+    pub fn find<K: Like<T>>(&self, key: &K) -> Result<usize, usize>
         requires { IsStrictlySortedBy T.cmp self.now }
-        ensures stands { IfOk result (StandsAt T.cmp self.now item.now) }
-        ensures absent { IfErr result (GoesAt T.cmp self.now item.now) }
+        ensures stands { IfOk result (StandsAt T.cmp self.now (K.stands_for key.now)) }
+        ensures absent { IfErr result (GoesAt T.cmp self.now (K.stands_for key.now)) }
     {
-        search(&self.items, item)
+        search(&self.items, key)
     }
 
     /// Whether there is a first item, and the front doesn't have it.
@@ -181,13 +172,13 @@ impl<T: Ord> Chunk<T> {
     }
 }
 
-// Where the item stands, or else would.
-pub(crate) fn search<T: Ord>(items: &[T], item: &T) -> Result<usize, usize>
+// Where the item of a key stands, or else would.
+pub(crate) fn search<T: Ord, K: Like<T>>(items: &[T], key: &K) -> Result<usize, usize>
     requires { IsStrictlySortedBy T.cmp items.now }
-    ensures stands { IfOk result (StandsAt T.cmp items.now item.now) }
-    ensures absent { IfErr result (GoesAt T.cmp items.now item.now) }
+    ensures stands { IfOk result (StandsAt T.cmp items.now (K.stands_for key.now)) }
+    ensures absent { IfErr result (GoesAt T.cmp items.now (K.stands_for key.now)) }
 {
-    items.binary_search(item)
+    items.binary_search_by(|item| key.order(item).reverse())
 }
 
 // Moves what a vector of 64 items has from place 32 on to one that has room.

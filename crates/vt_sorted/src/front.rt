@@ -6,6 +6,8 @@ ghost use Rattle.std.specs.Ordering.{is_lt};
 ghost use Rattle.vt_sorted.specs.Inside.Fronts.{up_to-closed};
 ghost use Rattle.vt_sorted.specs.Inside.Places.{EndsAt};
 
+use crate::Like;
+
 /// A front of ascending items, told by a test: the entries of all rules up to one, or the rows
 /// below all that begin with some values. Nothing of the items' type has to be made for it.
 pub trait Front<T: Ord> {
@@ -20,19 +22,19 @@ pub trait Front<T: Ord> {
         T.cmp x y ≡ Less → holds front y ≡ true → holds front x ≡ true };
 }
 
-// The items up to a given one.
+// The items up to that of a key.
 #[derive(Drop)]
-pub(crate) struct UpTo<'a, T> {
-    pub item: &'a T,
+pub(crate) struct UpTo<'a, K> {
+    pub key: &'a K,
 }
 
-impl<'a, T: Ord> Front<T> for UpTo<'a, T> {
-    ghost holds = { λ up x. not (is_lt (T.cmp up.item.now x)) };
+impl<'a, T: Ord, K: Like<T>> Front<T> for UpTo<'a, K> {
+    ghost holds = { λ up x. not (is_lt (T.cmp (K.stands_for up.key.now) x)) };
 
-    ghost closed = { λ up x y l e. up_to-closed T.cmp T.total up.item.now x y l e };
+    ghost closed = { λ up x y l e. up_to-closed T.cmp T.total (K.stands_for up.key.now) x y l e };
 
     fn holds(&self, item: &T) -> bool {
-        !self.item.cmp(item).is_lt()
+        !self.key.order(item).is_lt()
     }
 }
 

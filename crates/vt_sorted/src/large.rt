@@ -7,10 +7,12 @@ ghost use Rattle.std.specs.List.Sorted.{IsStrictlySortedBy};
 ghost use Rattle.vt_sorted.specs.Ascending.{has, with_item, without_item, items_after, items_from};
 ghost use Rattle.vt_sorted.specs.Inside.Pieces.{joined, IsFilled, IsPlace, IsEndPlace, StandsIn, GoesIn};
 
-use crate::chunk::{CHUNK, Chunk, HALF};
+use crate::chunk::{Chunk, HALF};
+use crate::chunks::Chunks;
 use crate::front::UpTo;
+use crate::like::Same;
 use crate::pieces::{fill, make_room, put, take};
-use crate::{Front, NoMemory, Walk};
+use crate::{Front, Like, NoMemory, Walk};
 use std::alloc::Global;
 use std::marker::Model;
 
@@ -20,14 +22,13 @@ const LIMIT: usize = 1 << 63;
 /// Chunks in ascending order, of which only the first may be empty, and free ones.
 #[derive(Debug, Drop)]
 pub(crate) struct Large<T: Ord> {
-    used: Vec<Chunk<T>>,
-    free: Vec<Chunk<T>>,
+    chunks: Chunks<T>,
     count: usize,
     alloc: Global,
 }
 
 impl<T: Ord> Model for Large<T> {
-    ghost use Rattle.std.specs.Prelude.{vec_len, vec_capacity, min, ◌-◌, ◌^◌};
+    ghost use Rattle.std.specs.Prelude.{min, ◌-◌, ◌^◌};
     ghost use Rattle.vt_facts.specs.Room.{Room};
     ghost use Rattle.vt_facts.specs.Inside.Coding.{room_code};
     ghost use Rattle.vt_sorted.specs.Inside.Pieces.{joined, room, IsLarge};
@@ -36,17 +37,17 @@ impl<T: Ord> Model for Large<T> {
 
     ghost coded = { room_code T.code };
 
-    ghost view = { λ s. record { items = joined s.used.items; spare = min (room s.used.items (vec_len s.free)) (2 ^ 63 - s.count) } };
+    ghost view = { λ s. record { items = joined s.chunks.items; spare = min (room s.chunks.items s.chunks.spare) (2 ^ 63 - s.count) } };
 
-    ghost invariant = { λ s. IsLarge T.cmp s.used.items (vec_len s.used) (vec_capacity s.used) (vec_len s.free) (vec_capacity s.free) s.count };
+    ghost invariant = { λ s. IsLarge T.cmp s.chunks.items s.count };
 }
 
 impl<T: Ord> Large<T> {
-    /// Whether the item stands in the set.
-    pub fn contains(&self, item: &T) -> bool
-        ensures { result ≡ has T.cmp self.now.items item.now }
+    /// Whether the item of a key stands in the set.
+    pub fn contains<K: Like<T>>(&self, key: &K) -> bool
+        ensures { result ≡ has T.cmp self.now.items (K.stands_for key.now) }
     {
-        locate(&self.used, item).is_ok()
+        locate(self.chunks.as_slice(), key).is_ok()
     }
 
     pub fn len(&self) -> usize
@@ -60,16 +61,16 @@ impl<T: Ord> Large<T> {
         ensures items { result ≡ self.now.items }
         ensures ascends { IsStrictlySortedBy T.cmp self.now.items }
     {
-        Walk::over(&[], &self.used)
+        Walk::over(&[], self.chunks.as_slice())
     }
 
     /// The items from a given one on, in order.
     pub fn walk_from(&self, item: &T) -> Walk<'_, T>
         ensures { result ≡ items_from T.cmp self.now.items item.now }
     {
-        match locate(&self.used, item) {
-            Ok((j, at)) => walk_at(&self.used, j, at),
-            Err((j, at)) => walk_at(&self.used, j, at),
+        match locate(self.chunks.as_slice(), &Same { item }) {
+            Ok((j, at)) => walk_at(self.chunks.as_slice(), j, at),
+            Err((j, at)) => walk_at(self.chunks.as_slice(), j, at),
         }
     }
 
@@ -77,15 +78,15 @@ impl<T: Ord> Large<T> {
     pub fn walk_after<F: Front<T>>(&self, front: &F) -> Walk<'_, T>
         ensures { result ≡ items_after (F.holds front.now) self.now.items }
     {
-        walk_past(&self.used, front)
+        walk_past(self.chunks.as_slice(), front)
     }
 
-    /// The item that is equal in order. `None` where none is.
-    pub fn find(&self, item: &T) -> Option<&T>
-        ensures { option_copied result ≡ find (eq_by_cmp T.cmp item.now) self.now.items }
+    /// The item that is equal in order to that of a key. `None` where none is.
+    pub fn find<K: Like<T>>(&self, key: &K) -> Option<&T>
+        ensures { option_copied result ≡ find (eq_by_cmp T.cmp (K.stands_for key.now)) self.now.items }
     {
-        match locate(&self.used, item) {
-            Ok((j, at)) => self.used[j].get(at),
+        match locate(self.chunks.as_slice(), key) {
+            Ok((j, at)) => self.chunks.as_slice()[j].get(at),
             Err(_) => None,
         }
     }
@@ -94,7 +95,7 @@ impl<T: Ord> Large<T> {
     pub fn get(&self, i: usize) -> Option<&T>
         ensures { option_copied result ≡ slice_get self.now.items i }
     {
-        item_at(&self.used, i)
+        item_at(self.chunks.as_slice(), i)
     }
 }
 
@@ -108,11 +109,9 @@ impl<T: Ord + Drop> Large<T> {
         if count > LIMIT {
             return Err(NoMemory);
         }
-        let used = fill(alloc, items)?;
-        let free = Vec::with_capacity(alloc, used.len())?;
+        let chunks = Chunks::of(fill(alloc, items)?);
         Ok(Large {
-            used,
-            free,
+            chunks,
             count,
             alloc,
         })
@@ -127,23 +126,17 @@ impl<T: Ord + Drop> Large<T> {
         ensures room { IfOk result (λ set. more ≤ set.spare) }
         ensures unchanged { OnErr result ((items.new.items ≡ items.old.items) × (vec_capacity items.old ≤ vec_capacity items.new)) }
     {
-        let mut used = Vec::new(alloc);
-        let mut free = Vec::new(alloc);
+        let mut chunks = Chunks::of(Vec::new(alloc));
         let count = items.len();
         if more > LIMIT - count {
             return Err(NoMemory);
         }
         let room = more.checked_add(HALF).ok_or(NoMemory)?;
-        make_room(alloc, &mut used, &mut free, room)?;
-        let chunks = free.len().checked_add(1).ok_or(NoMemory)?;
-        used.reserve(chunks)?;
-        free.reserve(1)?;
-        items.reserve(CHUNK - items.len())?;
-        let all = std::mem::replace(items, Vec::new(alloc));
-        used.push(Chunk::from_vec(all)).unwrap();
+        make_room(alloc, &mut chunks, room)?;
+        chunks.add_free(alloc, 1)?;
+        chunks.begin(items);
         Ok(Large {
-            used,
-            free,
+            chunks,
             count,
             alloc,
         })
@@ -154,12 +147,11 @@ impl<T: Ord + Drop> Large<T> {
         ensures { IfOk result (λ items. items.items ≡ self.items) }
     {
         let Large {
-            used,
+            chunks,
             count,
             alloc,
-            ..
         } = self;
-        flatten(alloc, used, count)
+        flatten(alloc, chunks.into_vec(), count)
     }
 
     /// Adds the item. It answers false where it stood, and hands it back for want of memory.
@@ -171,10 +163,10 @@ impl<T: Ord + Drop> Large<T> {
         ensures succeeds { 1 ≤ self.old.spare → IsOk result }
         ensures room { self.old.spare ≤ self.new.spare + 1 }
     {
-        match locate(&self.used, &item) {
+        match locate(self.chunks.as_slice(), &Same { item: &item }) {
             Ok(_) => Ok(false),
             Err(_) if self.count >= LIMIT => Err(item),
-            Err((j, at)) => match put(self.alloc, &mut self.used, &mut self.free, j, at, item) {
+            Err((j, at)) => match put(self.alloc, &mut self.chunks, j, at, item) {
                 Ok(()) => {
                     self.count += 1;
                     Ok(true)
@@ -184,15 +176,15 @@ impl<T: Ord + Drop> Large<T> {
         }
     }
 
-    /// Takes the item out, and answers whether it stood.
-    pub fn remove(&mut self, item: &T) -> bool
-        ensures items { self.new.items ≡ without_item T.cmp self.old.items item.now }
-        ensures stood { result ≡ has T.cmp self.old.items item.now }
+    /// Takes the item of a key out, and answers whether it stood.
+    pub fn remove<K: Like<T>>(&mut self, key: &K) -> bool
+        ensures items { self.new.items ≡ without_item T.cmp self.old.items (K.stands_for key.now) }
+        ensures stood { result ≡ has T.cmp self.old.items (K.stands_for key.now) }
         ensures room { self.old.spare ≤ self.new.spare }
     {
-        match locate(&self.used, item) {
+        match locate(self.chunks.as_slice(), key) {
             Ok((j, at)) => {
-                take(&mut self.used, &mut self.free, j, at);
+                take(&mut self.chunks, j, at);
                 self.count -= 1;
                 true
             }
@@ -209,7 +201,7 @@ impl<T: Ord + Drop> Large<T> {
         if more > LIMIT - self.count {
             return Err(NoMemory);
         }
-        make_room(self.alloc, &mut self.used, &mut self.free, more)
+        make_room(self.alloc, &mut self.chunks, more)
     }
 }
 
@@ -236,29 +228,32 @@ fn walk_at<T>(chunks: &[Chunk<T>], j: usize, at: usize) -> Walk<'_, T>
     Walk::over(&chunks[j].as_slice()[at..], &chunks[j + 1..])
 }
 
-// In which chunk the item stands and where, or else would.
-fn locate<T: Ord>(chunks: &[Chunk<T>], item: &T) -> Result<(usize, usize), (usize, usize)>
+// In which chunk the item of a key stands and where, or else would.
+fn locate<T: Ord, K: Like<T>>(
+    chunks: &[Chunk<T>],
+    key: &K,
+) -> Result<(usize, usize), (usize, usize)>
     requires some { 0 < length chunks.now }
     requires ascends { IsStrictlySortedBy T.cmp (joined chunks.now) }
     requires filled { IsFilled chunks.now }
-    ensures stands { IfOk result (λ p. StandsIn T.cmp chunks.now item.now p.0 p.1) }
-    ensures absent { IfErr result (λ p. GoesIn T.cmp chunks.now item.now p.0 p.1) }
+    ensures stands { IfOk result (λ p. StandsIn T.cmp chunks.now (K.stands_for key.now) p.0 p.1) }
+    ensures absent { IfErr result (λ p. GoesIn T.cmp chunks.now (K.stands_for key.now) p.0 p.1) }
 {
-    let j = place(chunks, item);
-    match chunks[j].find(item) {
+    let j = place(chunks, key);
+    match chunks[j].find(key) {
         Ok(at) => Ok((j, at)),
         Err(at) => Err((j, at)),
     }
 }
 
-// The chunk in which an item has its place.
-fn place<T: Ord>(chunks: &[Chunk<T>], item: &T) -> usize
+// The chunk in which the item of a key has its place.
+fn place<T: Ord, K: Like<T>>(chunks: &[Chunk<T>], key: &K) -> usize
     requires some { 0 < length chunks.now }
     requires ascends { IsStrictlySortedBy T.cmp (joined chunks.now) }
     requires filled { IsFilled chunks.now }
-    ensures { IsPlace T.cmp chunks.now item.now result }
+    ensures { IsPlace T.cmp chunks.now (K.stands_for key.now) result }
 {
-    end_place(chunks, &UpTo { item })
+    end_place(chunks, &UpTo { key })
 }
 
 // The items after a front.

@@ -1,115 +1,43 @@
 // Edits of chunks beside free ones.
-ghost use Rattle.std.specs.Prelude.{◌≡◌, ◌+◌, ◌<◌, ◌≤◌, [], ◌∷◌, ◌++◌, length, slice_set, slice_index_or, IfOk, IfErr, OnOk, OnErr, IsOk, suc, IfSome, IfNone, vec_len, vec_capacity};
+ghost use Rattle.std.specs.Prelude.{◌≡◌, ◌+◌, ◌<◌, ◌≤◌, [], ◌∷◌, ◌++◌, length, slice_set, slice_index_or, IfOk, IfErr, OnOk, OnErr, IsOk, suc, IfSome, IfNone, vec_len};
 ghost use Rattle.std.specs.List.{insert, remove};
-ghost use Rattle.vt_sorted.specs.Inside.Pieces.{joined, above_half, room, IsFilled, HaveSpace, IsPutBeside, merged, IsMergePlace};
+ghost use Rattle.vt_sorted.specs.Inside.Pieces.{joined, above_half, room, IsFilled, IsMergePlace};
 ghost use Rattle.std.specs.Bool.{OnFalse, OnTrue};
 
 use crate::NoMemory;
 use crate::chunk::{CHUNK, Chunk, HALF};
+use crate::chunks::Chunks;
 use std::alloc::Global;
-
-// A chunk with no items: a free one, or else a new one.
-fn free_chunk<T: Drop>(
-    alloc: Global,
-    used: &mut Vec<Chunk<T>>,
-    free: &mut Vec<Chunk<T>>,
-) -> Result<Chunk<T>, NoMemory>
-    requires { HaveSpace (vec_len used.old) (vec_capacity used.old) (vec_len free.old) (vec_capacity free.old) }
-    ensures items { used.new.items ≡ used.old.items }
-    ensures empty { IfOk result (λ c. c ≡ []) }
-    ensures fewer { OnOk result (vec_len free.old ≤ vec_len free.new + 1) }
-    ensures space { OnOk result (HaveSpace (vec_len used.new + 1) (vec_capacity used.new) (vec_len free.new) (vec_capacity free.new)) }
-    ensures err { OnErr result ((vec_len free.old ≡ 0) × HaveSpace (vec_len used.new) (vec_capacity used.new) (vec_len free.new) (vec_capacity free.new)) }
-{
-    match free.pop() {
-        Some(chunk) => {
-            let mut chunk = chunk;
-            chunk.clear();
-            Ok(chunk)
-        }
-        None => {
-            used.reserve(1)?;
-            free.reserve(used.len() + 1)?;
-            Chunk::new(alloc)
-        }
-    }
-}
-
-// Puts an item into a chunk that has room.
-fn put_in<T>(used: &mut Vec<Chunk<T>>, j: usize, at: usize, item: T)
-    requires in_range { j < vec_len used.old }
-    requires place { at ≤ length (slice_index_or used.old.items j []) }
-    requires room { length (slice_index_or used.old.items j []) < 64 }
-    ensures items { used.new.items ≡ slice_set used.old.items j (insert (slice_index_or used.old.items j []) at item) }
-    ensures len { vec_len used.new ≡ vec_len used.old }
-    ensures block { vec_capacity used.new ≡ vec_capacity used.old }
-{
-    used[j].put(at, item)
-}
-
-// Puts an item into a full chunk, whose upper half goes to an empty one behind it.
-fn put_beside<T>(used: &mut Vec<Chunk<T>>, j: usize, at: usize, item: T, empty: Chunk<T>)
-    requires in_range { j < vec_len used.old }
-    requires place { at ≤ 64 }
-    requires full { length (slice_index_or used.old.items j []) ≡ 64 }
-    requires empty { empty ≡ [] }
-    requires block { vec_len used.old < vec_capacity used.old }
-    ensures items { IsPutBeside used.old.items used.new.items j at item }
-    ensures len { vec_len used.new ≡ vec_len used.old + 1 }
-    ensures block { vec_capacity used.new ≡ vec_capacity used.old }
-{
-    let mut upper = empty;
-    used[j].put_and_split(&mut upper, at, item);
-    used.insert(j + 1, upper).unwrap()
-}
 
 // Puts an item at its place in a chunk, which is split where it is full.
 pub(crate) fn put<T: Drop>(
     alloc: Global,
-    used: &mut Vec<Chunk<T>>,
-    free: &mut Vec<Chunk<T>>,
+    chunks: &mut Chunks<T>,
     j: usize,
     at: usize,
     item: T,
 ) -> Result<(), T>
-    requires in_range { j < vec_len used.old }
-    requires place { at ≤ length (slice_index_or used.old.items j []) }
-    requires space { HaveSpace (vec_len used.old) (vec_capacity used.old) (vec_len free.old) (vec_capacity free.old) }
-    ensures items { OnOk result (joined used.new.items ≡ joined (slice_set used.old.items j (insert (slice_index_or used.old.items j []) at item))) }
-    ensures unchanged { OnErr result (used.new.items ≡ used.old.items) }
+    requires in_range { j < length chunks.old.items }
+    requires place { at ≤ length (slice_index_or chunks.old.items j []) }
+    ensures items { OnOk result (joined chunks.new.items ≡ joined (slice_set chunks.old.items j (insert (slice_index_or chunks.old.items j []) at item))) }
+    ensures unchanged { OnErr result (chunks.new.items ≡ chunks.old.items) }
     ensures comes_back { IfErr result (λ back. back ≡ item) }
-    ensures succeeds { 1 ≤ vec_len free.old → IsOk result }
-    ensures room { room used.old.items (vec_len free.old) ≤ room used.new.items (vec_len free.new) + 1 }
-    ensures filled { IsFilled used.old.items → IsFilled used.new.items }
-    ensures some { vec_len used.old ≤ vec_len used.new }
-    ensures space { HaveSpace (vec_len used.new) (vec_capacity used.new) (vec_len free.new) (vec_capacity free.new) }
+    ensures succeeds { 1 ≤ chunks.old.spare → IsOk result }
+    ensures room { room chunks.old.items chunks.old.spare ≤ room chunks.new.items chunks.new.spare + 1 }
+    ensures filled { IsFilled chunks.old.items → IsFilled chunks.new.items }
+    ensures some { length chunks.old.items ≤ length chunks.new.items }
 {
-    if used[j].len() < CHUNK {
-        put_in(used, j, at, item);
+    if chunks.as_slice()[j].len() < CHUNK {
+        chunks.put_in(j, at, item);
         return Ok(());
     }
-    match free_chunk(alloc, used, free) {
-        Ok(empty) => {
-            put_beside(used, j, at, item, empty);
+    match chunks.make_free(alloc) {
+        Ok(()) => {
+            chunks.put_beside(j, at, item);
             Ok(())
         }
         Err(_) => Err(item),
     }
-}
-
-// Moves the items of the chunk after k to the end of chunk k.
-fn merge<T>(used: &mut Vec<Chunk<T>>, free: &mut Vec<Chunk<T>>, k: usize)
-    requires in_range { k + 1 < vec_len used.old }
-    requires fits { length (slice_index_or used.old.items k []) + length (slice_index_or used.old.items (suc k) []) ≤ 64 }
-    requires space { HaveSpace (vec_len used.old) (vec_capacity used.old) (vec_len free.old) (vec_capacity free.old) }
-    ensures items { used.new.items ≡ merged used.old.items k }
-    ensures used_len { vec_len used.new + 1 ≡ vec_len used.old }
-    ensures free_len { vec_len free.new ≡ vec_len free.old + 1 }
-    ensures space { HaveSpace (vec_len used.new) (vec_capacity used.new) (vec_len free.new) (vec_capacity free.new) }
-{
-    let mut next = used.remove(k + 1);
-    used[k].join(&mut next);
-    free.push(next).unwrap()
 }
 
 // Whether the chunk after k may be joined to it: it is empty, or both are small.
@@ -125,19 +53,17 @@ fn may_merge<T>(used: &[Chunk<T>], k: usize) -> bool
 
 // Takes the item at a place of chunk j out, and joins the chunk to a neighbour where both are
 // small.
-pub(crate) fn take<T: Drop>(used: &mut Vec<Chunk<T>>, free: &mut Vec<Chunk<T>>, j: usize, at: usize)
-    requires in_range { j < vec_len used.old }
-    requires place { at < length (slice_index_or used.old.items j []) }
-    requires space { HaveSpace (vec_len used.old) (vec_capacity used.old) (vec_len free.old) (vec_capacity free.old) }
-    ensures items { joined used.new.items ≡ joined (slice_set used.old.items j (remove (slice_index_or used.old.items j []) at)) }
-    ensures room { room used.old.items (vec_len free.old) ≤ room used.new.items (vec_len free.new) }
-    ensures filled { IsFilled used.old.items → IsFilled used.new.items }
-    ensures some { 0 < vec_len used.new }
-    ensures space { HaveSpace (vec_len used.new) (vec_capacity used.new) (vec_len free.new) (vec_capacity free.new) }
+pub(crate) fn take<T: Drop>(chunks: &mut Chunks<T>, j: usize, at: usize)
+    requires in_range { j < length chunks.old.items }
+    requires place { at < length (slice_index_or chunks.old.items j []) }
+    ensures items { joined chunks.new.items ≡ joined (slice_set chunks.old.items j (remove (slice_index_or chunks.old.items j []) at)) }
+    ensures room { room chunks.old.items chunks.old.spare ≤ room chunks.new.items chunks.new.spare }
+    ensures filled { IsFilled chunks.old.items → IsFilled chunks.new.items }
+    ensures some { 0 < length chunks.new.items }
 {
-    take_at(used, j, at);
-    if let Some(k) = merge_place(used, j) {
-        merge(used, free, k)
+    chunks.take_at(j, at);
+    if let Some(k) = merge_place(chunks.as_slice(), j) {
+        chunks.merge(k)
     }
 }
 
@@ -154,17 +80,6 @@ fn merge_place<T>(used: &[Chunk<T>], j: usize) -> Option<usize>
         return Some(j);
     }
     None
-}
-
-// Takes the item at a place of chunk j out.
-fn take_at<T: Drop>(used: &mut Vec<Chunk<T>>, j: usize, at: usize)
-    requires in_range { j < vec_len used.old }
-    requires place { at < length (slice_index_or used.old.items j []) }
-    ensures items { used.new.items ≡ slice_set used.old.items j (remove (slice_index_or used.old.items j []) at) }
-    ensures len { vec_len used.new ≡ vec_len used.old }
-    ensures block { vec_capacity used.new ≡ vec_capacity used.old }
-{
-    let _ = used[j].take(at);
 }
 
 // How many items stand above the half of their chunk.
@@ -192,47 +107,22 @@ fn chunks_wanted<T>(used: &[Chunk<T>], free: usize, more: usize) -> usize
     }
 }
 
-// Adds so many free chunks.
-fn add_free<T>(
-    alloc: Global,
-    used: &mut Vec<Chunk<T>>,
-    free: &mut Vec<Chunk<T>>,
-    count: usize,
-) -> Result<(), NoMemory>
-    requires { HaveSpace (vec_len used.old) (vec_capacity used.old) (vec_len free.old) (vec_capacity free.old) }
-    ensures items { used.new.items ≡ used.old.items }
-    ensures more { OnOk result (vec_len free.new ≡ vec_len free.old + count) }
-    ensures grows { vec_len free.old ≤ vec_len free.new }
-    ensures space { HaveSpace (vec_len used.new) (vec_capacity used.new) (vec_len free.new) (vec_capacity free.new) }
-{
-    let total = free.len().checked_add(count).ok_or(NoMemory)?;
-    used.reserve(total)?;
-    let all = used.len().checked_add(count).ok_or(NoMemory)?;
-    free.reserve(all)?;
-    for _ in 0..count {
-        free.push(Chunk::new(alloc)?).unwrap()
-    }
-    Ok(())
-}
-
 /// Makes room for so many more items.
 pub(crate) fn make_room<T>(
     alloc: Global,
-    used: &mut Vec<Chunk<T>>,
-    free: &mut Vec<Chunk<T>>,
+    chunks: &mut Chunks<T>,
     more: usize,
 ) -> Result<(), NoMemory>
-    requires { HaveSpace (vec_len used.old) (vec_capacity used.old) (vec_len free.old) (vec_capacity free.old) }
-    ensures items { used.new.items ≡ used.old.items }
-    ensures room { OnOk result (more ≤ room used.new.items (vec_len free.new)) }
-    ensures grows { vec_len free.old ≤ vec_len free.new }
-    ensures space { HaveSpace (vec_len used.new) (vec_capacity used.new) (vec_len free.new) (vec_capacity free.new) }
+    ensures items { chunks.new.items ≡ chunks.old.items }
+    ensures room { OnOk result (more ≤ room chunks.new.items chunks.new.spare) }
+    ensures grows { chunks.old.spare ≤ chunks.new.spare }
 {
-    if more <= free.len() {
+    let free = chunks.free();
+    if more <= free {
         return Ok(());
     }
-    let count = chunks_wanted(used, free.len(), more);
-    add_free(alloc, used, free, count)
+    let count = chunks_wanted(chunks.as_slice(), free, more);
+    chunks.add_free(alloc, count)
 }
 
 // The items of a vector in chunks, each but the last full.

@@ -10,7 +10,8 @@ ghost use Rattle.vt_sorted.specs.Ascending.{has, with_item, without_item, items_
 use crate::chunk::{CHUNK, search};
 use crate::front::end_of;
 use crate::large::Large;
-use crate::{Front, NoMemory, Plain, Walk};
+use crate::like::Same;
+use crate::{Front, Like, NoMemory, Plain, Walk};
 use std::alloc::Global;
 use std::marker::Model;
 
@@ -58,9 +59,16 @@ impl<T: Ord> Sorted<T> {
     pub fn contains(&self, item: &T) -> bool
         ensures { result ≡ has T.cmp self.now.items item.now }
     {
+        self.contains_like(&Same { item })
+    }
+
+    /// Whether the item of a key stands in the set.
+    pub fn contains_like<K: Like<T>>(&self, key: &K) -> bool
+        ensures { result ≡ has T.cmp self.now.items (K.stands_for key.now) }
+    {
         match &self.form {
-            Form::Few(items) => search(items, item).is_ok(),
-            Form::Many(large) => large[0].contains(item),
+            Form::Few(items) => search(items, key).is_ok(),
+            Form::Many(large) => large[0].contains(key),
         }
     }
 
@@ -121,9 +129,16 @@ impl<T: Ord> Sorted<T> {
     pub fn find(&self, item: &T) -> Option<&T>
         ensures { option_copied result ≡ find (eq_by_cmp T.cmp item.now) self.now.items }
     {
+        self.find_like(&Same { item })
+    }
+
+    /// The item that is equal in order to that of a key. `None` is where none is.
+    pub fn find_like<K: Like<T>>(&self, key: &K) -> Option<&T>
+        ensures { option_copied result ≡ find (eq_by_cmp T.cmp (K.stands_for key.now)) self.now.items }
+    {
         match &self.form {
-            Form::Few(items) => find_few(items, item),
-            Form::Many(large) => large[0].find(item),
+            Form::Few(items) => find_few(items, key),
+            Form::Many(large) => large[0].find(key),
         }
     }
 
@@ -190,7 +205,7 @@ impl<T: Ord + Drop> Sorted<T> {
         ensures room { self.old.spare ≤ self.new.spare + 1 }
     {
         match &mut self.form {
-            Form::Few(items) => match search(items, &item) {
+            Form::Few(items) => match search(items, &Same { item: &item }) {
                 Ok(_) => Ok(false),
                 Err(at) if items.len() < CHUNK => match items.insert(at, item) {
                     Ok(()) => Ok(true),
@@ -215,9 +230,18 @@ impl<T: Ord + Drop> Sorted<T> {
         ensures stood { result ≡ has T.cmp self.old.items item.now }
         ensures room { self.old.spare ≤ self.new.spare }
     {
+        self.remove_like(&Same { item })
+    }
+
+    /// Takes the item of a key out, and answers whether it stood.
+    pub fn remove_like<K: Like<T>>(&mut self, key: &K) -> bool
+        ensures items { self.new.items ≡ without_item T.cmp self.old.items (K.stands_for key.now) }
+        ensures stood { result ≡ has T.cmp self.old.items (K.stands_for key.now) }
+        ensures room { self.old.spare ≤ self.new.spare }
+    {
         match &mut self.form {
-            Form::Few(items) => take_few(items, item),
-            Form::Many(large) => large[0].remove(item),
+            Form::Few(items) => take_few(items, key),
+            Form::Many(large) => large[0].remove(key),
         }
     }
 
@@ -302,16 +326,16 @@ fn hold<T: Ord + Drop>(
     Ok(held)
 }
 
-// Takes the item out of an ascending list, and answers whether it stood.
-fn take_few<T: Ord + Drop>(items: &mut Vec<T>, item: &T) -> bool
+// Takes the item of a key out of an ascending list, and answers whether it stood.
+fn take_few<T: Ord + Drop, K: Like<T>>(items: &mut Vec<T>, key: &K) -> bool
     requires { IsStrictlySortedBy T.cmp items.old.items }
-    ensures items { items.new.items ≡ without_item T.cmp items.old.items item.now }
+    ensures items { items.new.items ≡ without_item T.cmp items.old.items (K.stands_for key.now) }
     ensures ascends { IsStrictlySortedBy T.cmp items.new.items }
-    ensures stood { result ≡ has T.cmp items.old.items item.now }
+    ensures stood { result ≡ has T.cmp items.old.items (K.stands_for key.now) }
     ensures len { vec_len items.new ≤ vec_len items.old }
     ensures block { vec_capacity items.new ≡ vec_capacity items.old }
 {
-    match search(items, item) {
+    match search(items, key) {
         Ok(at) => {
             let _ = items.remove(at);
             true
@@ -325,7 +349,7 @@ fn walk_few<'a, T: Ord>(items: &'a [T], item: &T) -> Walk<'a, T>
     requires { IsStrictlySortedBy T.cmp items.now }
     ensures { result ≡ items_from T.cmp items.now item.now }
 {
-    match search(items, item) {
+    match search(items, &Same { item }) {
         Ok(at) => Walk::over(&items[at..], &[]),
         Err(at) => Walk::over(&items[at..], &[]),
     }
@@ -340,12 +364,12 @@ fn past_few<'a, T: Ord, F: Front<T>>(items: &'a [T], front: &F) -> Walk<'a, T>
     Walk::over(&items[at..], &[])
 }
 
-// The item of an ascending list that is equal in order to this one.
-fn find_few<'a, T: Ord>(items: &'a [T], item: &T) -> Option<&'a T>
+// The item of an ascending list that is equal in order to that of a key.
+fn find_few<'a, T: Ord, K: Like<T>>(items: &'a [T], key: &K) -> Option<&'a T>
     requires { IsStrictlySortedBy T.cmp items.now }
-    ensures { option_copied result ≡ find (eq_by_cmp T.cmp item.now) items.now }
+    ensures { option_copied result ≡ find (eq_by_cmp T.cmp (K.stands_for key.now)) items.now }
 {
-    match search(items, item) {
+    match search(items, key) {
         Ok(at) => items.get(at),
         Err(_) => None,
     }

@@ -5,7 +5,7 @@ ghost use Rattle.vt_sorted.specs.Inside.Fronts.{below-closed};
 ghost use Rattle.std.specs.Cmp.{partial_equiv_from_equiv, partial_order_from_total};
 ghost use Rattle.std.proofs.lemmas.Cmp.{eq_by_cmp_equiv, on_total, back_total, nat_cmp_total};
 
-use crate::{Front, NoMemory, Sorted};
+use crate::{Front, Like, NoMemory, Sorted};
 use std::alloc::Global;
 use std::cmp::Ordering;
 use std::test::Fail;
@@ -66,6 +66,15 @@ impl Ord for Falling {
     }
 }
 
+// A number is the key to itself in the other order.
+impl Like<Falling> for u32 {
+    ghost stands_for = { λ n. record { 0 = n } };
+
+    fn order(&self, item: &Falling) -> Ordering {
+        item.0.cmp(self)
+    }
+}
+
 // The first multiples of three, as many as a prime number, put in out of order.
 fn multiples(alloc: Global, prime: u16) -> Result<Sorted<u32>, NoMemory> {
     let mut set = Sorted::new(alloc);
@@ -100,48 +109,52 @@ fn a_set_has_each_item_once_and_in_order(rt: HostRuntime) -> Result<(), Fail> {
     Ok(())
 }
 
-// Few items, items in some chunks, and in many.
-#[test]
-fn what_stands_is_found_from_wherever_one_looks(rt: HostRuntime) -> Result<(), Fail> {
-    let alloc = rt.alloc();
-    for prime in [13u16, 67, 1009] {
-        let set = multiples(alloc, prime)?;
-        assert_eq!(rt; set.len(), usize::from(prime));
-        assert_eq!(rt; set.first(), Some(&0));
-        let mut later = set.walk();
-        for i in 0..prime {
-            let x = u32::from(i) * 3;
-            assert_eq!(rt; set.get(usize::from(i)), Some(&x));
-            assert_eq!(rt; set.find(&x), Some(&x));
-            assert_eq!(rt; set.find(&(x + 1)), None);
-            assert!(rt; set.contains(&x) && !set.contains(&(x + 2)));
-            assert_eq!(rt; set.walk_from(&x).next(), Some(&x));
-            assert_eq!(rt; set.walk_after(&Below(x)).next(), Some(&x));
-            assert_eq!(rt; later.next(), Some(&x));
-            let next = set.get(usize::from(i) + 1);
-            assert_eq!(rt; set.walk_from(&(x + 1)).next(), next);
-            assert_eq!(rt; set.walk_after(&Below(x + 1)).next(), next);
-        }
-        assert_eq!(rt; later.next(), None);
-    }
-    Ok(())
+// Whether the item at a place is found from wherever one looks, and the one after it that stands.
+fn is_found(set: &Sorted<u32>, place: u16) -> bool {
+    let x = u32::from(place) * 3;
+    let at = usize::from(place);
+    let next = set.get(at + 1);
+    set.get(at) == Some(&x)
+        && set.find(&x) == Some(&x)
+        && set.find(&(x + 1)).is_none()
+        && set.contains(&x)
+        && !set.contains(&(x + 2))
+        && set.walk_from(&x).next() == Some(&x)
+        && set.walk_after(&Below(x)).next() == Some(&x)
+        && set.walk_from(&(x + 1)).next() == next
+        && set.walk_after(&Below(x + 1)).next() == next
 }
 
+// Whether a walk comes by the first multiples of three, so many, and no more.
+fn is_walked(set: &Sorted<u32>, count: u16) -> bool {
+    let mut walk = set.walk();
+    (0..count).all(|place| walk.next() == Some(&(u32::from(place) * 3))) && walk.next().is_none()
+}
+
+// Whether the item goes where it stands, and only then.
+fn is_removed(set: &mut Sorted<u32>, x: u16) -> bool {
+    let x = u32::from(x) * 3;
+    !set.remove(&(x + 1)) && set.remove(&x) && !set.contains(&x) && !set.remove(&x)
+}
+
+// Few items, items in some chunks, and in many.
 #[test]
-fn what_is_removed_is_gone(rt: HostRuntime) -> Result<(), Fail> {
-    let alloc = rt.alloc();
+fn what_stands_is_found_and_what_is_removed_is_gone(rt: HostRuntime) -> Result<(), Fail> {
     for prime in [13u16, 67, 1009] {
-        let mut set = multiples(alloc, prime)?;
-        for i in 0..prime {
-            let x = u32::from(i) * 11 % u32::from(prime) * 3;
-            assert!(rt; !set.remove(&(x + 1)));
-            assert!(rt; set.remove(&x));
-            assert!(rt; !set.contains(&x));
-            assert!(rt; !set.remove(&x));
-        }
-        assert!(rt; set.is_empty());
-        assert_eq!(rt; set.insert(8), Ok(true));
-        assert_eq!(rt; set.insert(8), Ok(false));
+        let mut set = multiples(rt.alloc(), prime)?;
+        let found = (0..prime).all(|place| is_found(&set, place));
+        let walked = is_walked(&set, prime)
+            && set.first() == Some(&0)
+            && set.len() == usize::from(prime);
+        let removed = (0..prime).all(|i| is_removed(
+            &mut set,
+            (u32::from(i) * 11 % u32::from(prime)) as u16,
+        ));
+        let again = set.is_empty() && set.insert(8) == Ok(true) && set.insert(8) == Ok(false);
+        assert!(rt;
+            found && walked && removed && again,
+            "{prime}: {found} {walked} {removed} {again}"
+        );
     }
     Ok(())
 }
@@ -185,6 +198,32 @@ fn an_order_of_its_own_is_that_of_a_type(rt: HostRuntime) -> Result<(), Fail> {
     let mut walk = set.walk();
     for n in [7, 5, 2] {
         assert_eq!(rt; walk.next().map(|item| item.0), Some(n));
+    }
+    Ok(())
+}
+
+// Whether a key finds what it stands for, and takes it out.
+fn is_had(set: &mut Sorted<Falling>, n: u32) -> bool {
+    set.find_like(&n).map(|item| item.0) == Some(n)
+        && set.contains_like(&n)
+        && set.remove_like(&n)
+        && !set.contains_like(&n)
+        && !set.remove_like(&n)
+        && set.find_like(&n).is_none()
+}
+
+// Few items, and items in chunks.
+#[test]
+fn a_key_finds_what_it_stands_for(rt: HostRuntime) -> Result<(), Fail> {
+    for count in [3u32, 200] {
+        let mut set = Sorted::new(rt.alloc());
+        for n in 0..count {
+            let _ = set.insert(Falling(n));
+        }
+        assert!(rt;
+            (0..count).all(|n| is_had(&mut set, n)) && set.is_empty(),
+            "{count}"
+        );
     }
     Ok(())
 }

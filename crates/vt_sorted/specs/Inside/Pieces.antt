@@ -53,17 +53,16 @@ pub record IsEndPlace {T : Type 0} (test : T → Bool) (cs : List (List T)) (j :
   pub begins : 0 < j → begins_after test (slice_index_or cs j []) ≡ false
   pub after : NoneMeet test (joined (drop (suc j) cs))
 
--- blocks with room for all pieces, used or free
-pub record HaveSpace (used used_room free free_room : ℕ) : Type 0 where
-  pub place_used : used + free ≤ used_room
-  pub place_free : used + free ≤ free_room
+-- so many pieces, and behind them some without items
+pub record AreBehind {T : Type 0} (used : ℕ) (cs : List (List T)) : Type 0 where
+  pub in_range : used ≤ length cs
+  pub empty : AllByRecursion (λ c. c ≡ []) (drop used cs)
 
--- what the fields of a large set keep: its pieces, and how many pieces are free
-pub record IsLarge {T : Type 0} (R : T → T → Ordering) (cs : List (List T)) (used used_room free free_room count : ℕ) : Type 0 where
+-- what the fields of a large set keep
+pub record IsLarge {T : Type 0} (R : T → T → Ordering) (cs : List (List T)) (count : ℕ) : Type 0 where
   pub ascends : IsStrictlySortedBy R (joined cs)
-  pub some : 0 < used
+  pub some : 0 < length cs
   pub filled : IsFilled cs
-  pub space : HaveSpace used used_room free free_room
   pub counted : count ≡ length (joined cs)
   pub limit : count ≤ 2 ^ 63
 

@@ -19,8 +19,8 @@ returns-in-Ok-clause-stands g c =
     let cs = c.args.chunks.now in
     let j = c.place-j.result in
     let is : c.index-chunks-j.result ≡ get_or cs j [] = get_or_read cs j _ c.place-j.ensures.in_range c.index-chunks-j.is [] in
-    stands_in R g.met.T.Ord.total cs c.args.item.now j c.in-Ok.at c.requires.ascends c.place-j.ensures
-    (subst (λ x. StandsAt R x c.args.item.now c.in-Ok.at) is c.in-Ok.ensures.stands)
+    stands_in R g.met.T.Ord.total cs (g.K.Like.stands_for c.args.key.now) j c.in-Ok.at c.requires.ascends c.place-j.ensures
+    (subst (λ x. StandsAt R x (g.K.Like.stands_for c.args.key.now) c.in-Ok.at) is c.in-Ok.ensures.stands)
 
 pub returns-in-Err-clause-absent : goal.returns-in-Err-clause-absent
 returns-in-Err-clause-absent g c =
@@ -28,5 +28,5 @@ returns-in-Err-clause-absent g c =
     let cs = c.args.chunks.now in
     let j = c.place-j.result in
     let is : c.index-chunks-j.result ≡ get_or cs j [] = get_or_read cs j _ c.place-j.ensures.in_range c.index-chunks-j.is [] in
-    goes_in R g.met.T.Ord.total cs c.args.item.now j c.in-Err.at c.requires.ascends c.place-j.ensures
-    (subst (λ x. GoesAt R x c.args.item.now c.in-Err.at) is c.in-Err.ensures.absent)
+    goes_in R g.met.T.Ord.total cs (g.K.Like.stands_for c.args.key.now) j c.in-Err.at c.requires.ascends c.place-j.ensures
+    (subst (λ x. GoesAt R x (g.K.Like.stands_for c.args.key.now) c.in-Err.at) is c.in-Err.ensures.absent)
