@@ -6,7 +6,8 @@ use vt_base::Text;
 #[derive(Debug, Drop)]
 pub struct Lexeme {
     pub symbol: Symbol,
-    /// What a word or a number is written as. Other symbols have no text.
+    /// What a word or a number is written as, and what a string stands for. Other symbols have no
+    /// text.
     pub text: Text,
     pub line: u32,
 }

@@ -1,6 +1,4 @@
 mod WordLemmas
 mod LineLemmas
-mod StringLemmas
 mod ScriptLemmas
-mod QuotedLemmas
 mod FormedLemmas

@@ -8,7 +8,7 @@ use Rattle.std.proofs.lemmas.Bool.{ne_eqb}
 use Rattle.std.proofs.lemmas.Bool.Decides.{nat_tests}
 use Rattle.std.proofs.lemmas.Str.Parse.{IsNumeralModel, numerals_by_fold, parse_plain}
 use Rattle.vt_text.specs.Lexicon.{number_of}
-use Rattle.vt_script.specs.Words.{cut, is_numeral, number, integer, unquoted, quoted}
+use Rattle.vt_script.specs.Words.{cut, is_numeral, number, integer}
 use Rattle.vt_facts.proofs.BoolLemmas.{and_left, and_right}
 use denote.Ref.{Bor}
 
@@ -73,14 +73,6 @@ pub unsigned : (bytes : List ℕ) → ((rest : List ℕ) → bytes ≢ 45 ∷ re
 unsigned [] none = refl
 unsigned (b ∷ bs) none = rw (ne_eqb b 45 (λ e. none bs (ap (λ x. x ∷ bs) e))) refl
 
--- a string begins with a quote
-pub not_quoted : (bytes : List ℕ) → ((rest : List ℕ) → bytes ≢ 34 ∷ rest) → quoted bytes ≡ None
-not_quoted [] none = refl
-not_quoted (b ∷ bs) none = rw (ne_eqb b 34 (λ e. none bs (ap (λ x. x ∷ bs) e))) refl
-
--- behind a sign, and behind a quote
+-- behind a sign
 pub negative : (bytes rest : List ℕ) → bytes ≡ 45 ∷ rest → integer bytes ≡ option_map (λ n. neg_ℤ (pos n)) (number 9223372036854775807 rest)
 negative bytes rest e = ap integer e
-
-pub behind_quote : (bytes rest : List ℕ) → bytes ≡ 34 ∷ rest → quoted bytes ≡ unquoted rest
-behind_quote bytes rest e = ap quoted e

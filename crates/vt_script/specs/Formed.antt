@@ -1,7 +1,6 @@
 -- That each word of a command has its form, and what a string in quotes is.
 use Rattle.std.specs.Prelude.{◌≡◌, ◌≢◌, ℕ, ◌≤◌, List, [], ◌++◌, codes, true, None}
 use Rattle.vt_json.specs.Names.{is_name, continues_object_name}
-use Rattle.vt_text.specs.Lexicon.{Writes}
 use Rattle.vt_model.specs.declared.change.Change.{Change}
 use Rattle.vt_model.specs.declared.change.Change.TheVariants as change
 use Rattle.vt_script.specs.declared.line.Line.{Line}
@@ -37,9 +36,3 @@ IsFormed (line.Matches pattern) = IsIdentifier pattern
 IsFormed (line.Activations agenda) = IsIdentifier agenda
 IsFormed (line.Group pattern column rest) = IsIdentifier pattern × (column ≤ 15) × (rest ≢ [])
 IsFormed line.Dump = Unit {0}
-
--- the bytes are a string in double quotes that stands for the text
-pub record IsStringOf (bytes text : List ℕ) : Type 0 where
-  pub inner : List ℕ
-  pub quotes : bytes ≡ codes "\"" ++ inner ++ codes "\""
-  pub writes : Writes inner text

@@ -7,7 +7,8 @@ use Rattle.vt_facts.specs.Firsts.{first_of}
 use Rattle.vt_facts.specs.Names.{is_name as is_word}
 use Rattle.vt_facts.specs.Parts.{◌>>=◌, with_front}
 use Rattle.vt_json.specs.Names.{is_name, continues_object_name}
-use Rattle.vt_text.specs.Lexicon.{begins_word, goes_on, number_of, is_plain, escaped}
+use Rattle.vt_text.specs.Lexicon.{begins_word, goes_on, number_of}
+use Rattle.vt_text.specs.Quoting.{quoted}
 use Rattle.vt_base.specs.declared.agenda.Policy.{Policy}
 use Rattle.vt_base.specs.declared.agenda.Policy.TheVariants.{Fixed, Inverted, Oldest, Turns}
 use Rattle.vt_model.specs.declared.change.Given.{Given}
@@ -49,27 +50,6 @@ truth bytes = first_of
     ((is_word bytes (codes "true"), true)
     ∷ (is_word bytes (codes "false"), false)
     ∷ [])
-
-abbrev mutual
-  -- what is written behind a quote, up to the quote that ends the line
-  pub unquoted : List ℕ → Option (List ℕ)
-  unquoted [] = None
-  unquoted (b ∷ bs) = if b == 34 then at_end bs else if b == 92 then unescaped bs else if is_plain b then with_front (b ∷ []) (unquoted bs) else None
-
-  -- nothing may follow
-  pub at_end : List ℕ → Option (List ℕ)
-  at_end [] = Some []
-  at_end (b ∷ bs) = None
-
-  -- behind a `\`
-  pub unescaped : List ℕ → Option (List ℕ)
-  unescaped [] = None
-  unescaped (b ∷ bs) = escaped b >>= λ c. with_front (c ∷ []) (unquoted bs)
-
--- a string in double quotes
-abbrev pub quoted : List ℕ → Option (List ℕ)
-quoted [] = None
-quoted (b ∷ bs) = if b == 34 then unquoted bs else None
 
 -- a value that is given to an attribute
 abbrev pub value : List ℕ → Option Given

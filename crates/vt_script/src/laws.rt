@@ -1,9 +1,8 @@
 // What holds of every script.
-ghost use Rattle.std.specs.Prelude.{◌≡◌, ◌↔◌, ◌≤◌, List, ℕ, length, Ok, Some};
+ghost use Rattle.std.specs.Prelude.{◌≡◌, ◌≤◌, List, ℕ, length, Ok};
 ghost use Rattle.std.specs.List.{AllByRecursion};
-ghost use Rattle.vt_script.specs.Words.{quoted};
 ghost use Rattle.vt_script.specs.Script.{script_of};
-ghost use Rattle.vt_script.specs.Formed.{IsFormed, IsStringOf};
+ghost use Rattle.vt_script.specs.Formed.{IsFormed};
 ghost use Rattle.vt_script.specs.declared.line.Line.{Line};
 
 /// The names and numbers of the commands that bytes spell have their forms, and the commands are
@@ -13,9 +12,4 @@ pub fn accepted_is_formed()
         → AllByRecursion IsFormed lines }
     ensures few { (bytes : List ℕ) (lines : List Line) → script_of bytes ≡ Ok lines
         → length lines ≤ 100000 }
-{}
-
-/// What is read as a string is a string in double quotes, as in queries, and each such string is read.
-pub fn strings_are_quoted()
-    ensures { (bytes text : List ℕ) → (quoted bytes ≡ Some text) ↔ IsStringOf bytes text }
 {}

@@ -23,7 +23,7 @@ pub use line::Line;
 pub use fault::ScriptFault;
 pub use script::read_script;
 // What holds of every script.
-pub use laws::{accepted_is_formed, strings_are_quoted};
+pub use laws::accepted_is_formed;
 
 #[cfg(test)]
 mod tests;

@@ -1,5 +1,5 @@
 -- Tokens as slices of a text, which begin and end with a byte of ASCII.
-use Rattle.std.proofs.Common.{ℕ, ◌≡◌, ◌+◌, ◌-◌, ◌<◌, ◌≤◌, ◌==◌, nat_eq, Bool, true, List, [], ◌∷◌, ◌++◌, length, get_or, drop, slice_range, Some, is_some, refl, sym, ◌∙◌, subst, arith, codes, nat_lt, length-append, length-take-le, length-drop, IsUtf8, IsAscii, IsCharBoundary}
+use Rattle.std.proofs.Common.{ℕ, ◌≡◌, ◌+◌, ◌-◌, ◌<◌, ◌≤◌, ◌==◌, nat_eq, Bool, true, List, [], ◌∷◌, ◌++◌, length, get_or, drop, slice_range, Some, is_some, refl, sym, ◌∙◌, subst, arith, codes, nat_lt, length-append, length-take-le, length-drop, IsUtf8, IsAscii, IsCharBoundary, append-nil}
 use Rattle.std.specs.List.{AllByRecursion, list_all}
 use Rattle.std.specs.Char.{is_ascii_digit}
 use Rattle.std.specs.Cmp.Lexicographic.{pointwise}
@@ -11,7 +11,7 @@ use Rattle.vt_text.specs.declared.token.Token.{Token}
 use Rattle.vt_text.specs.declared.token.TokenKind.{TokenKind}
 use Rattle.vt_text.specs.declared.token.TokenKind.TheVariants.{Word, Blank, Number, Quoted, Mark}
 use Rattle.vt_text.specs.Lexicon.{begins_word, goes_on, IsMark, is_single_mark, is_double_mark, Stands}
-use Rattle.vt_text.specs.Spelling.{Spells}
+use Rattle.vt_text.specs.Spelling.{Spells, AreAmong}
 use Rattle.vt_text.specs.Lexemes.{marks, named_in}
 use Rattle.vt_text.specs.Spans.{IsSlice, AreSlices}
 use Rattle.vt_text.proofs.TestLemmas.{both_true, found_item, same_text}
@@ -30,6 +30,23 @@ each_from text from (t ∷ tokens) s = (anywhere text from t s.0, each_from text
 -- each token that a text spells is a slice of it
 pub each_is_slice : (text : List ℕ) (tokens : List Token) → Spells text tokens → AllByRecursion (IsSlice text 0) tokens
 each_is_slice text tokens s = each_from text 0 tokens (are_slices text tokens s)
+
+all_front : {X : Type 0} (P : X → Type 0) (xs ys : List X) → AllByRecursion P (xs ++ ys) → AllByRecursion P xs
+all_front P [] ys h = tt
+all_front P (x ∷ xs) ys h = (h.0, all_front P xs ys h.1)
+
+all_back : {X : Type 0} (P : X → Type 0) (xs ys : List X) → AllByRecursion P (xs ++ ys) → AllByRecursion P ys
+all_back P [] ys h = h
+all_back P (x ∷ xs) ys h = all_back P xs ys h.1
+
+-- all tokens are neighbours
+pub all_among : (text : List ℕ) (tokens : List Token) → Spells text tokens → AreAmong text tokens
+all_among text tokens s = record { before = []; after = []; spelled = subst (Spells text) (sym (append-nil tokens)) s }
+
+-- so is each of some neighbours
+pub each_among : (text : List ℕ) (tokens : List Token) → AreAmong text tokens → AllByRecursion (IsSlice text 0) tokens
+each_among text tokens s =
+    all_back (IsSlice text 0) s.before tokens (all_front (IsSlice text 0) (s.before ++ tokens) s.after (each_is_slice text (s.before ++ tokens ++ s.after) s.spelled))
 
 -- Bytes of ASCII.
 

@@ -9,3 +9,12 @@ mod CutLemmas
 mod SpellingLemmas
 mod LexemeLemmas
 mod ExpressionLemmas
+pub mod NameLemmas
+mod DigitLemmas
+mod DepthLemmas
+mod UnquotedLemmas
+mod QuotedLemmas
+mod KindLemmas
+mod TreeLemmas
+mod SpelledLemmas
+mod MeantLemmas

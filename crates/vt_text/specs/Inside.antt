@@ -2,3 +2,7 @@
 pub mod Scan
 pub mod Scanned
 pub mod Chains
+pub mod FactoredLeaf
+pub mod Levels
+pub mod Trees
+pub mod Digits

@@ -4,6 +4,7 @@ use Rattle.std.specs.Cmp.Lexicographic.{pointwise}
 use Rattle.vt_grammar.specs.declared.symbol.Symbol.{Symbol}
 use Rattle.vt_grammar.specs.declared.symbol.Symbol.TheVariants as symbol
 use Rattle.vt_grammar.specs.declared.lexeme.Lexeme.{Lexeme}
+use Rattle.vt_text.specs.Quoting.{quoted}
 use Rattle.vt_text.specs.declared.token.Token.{Token}
 use Rattle.vt_text.specs.declared.token.TokenKind.{TokenKind}
 use Rattle.vt_text.specs.declared.token.TokenKind.TheVariants.{Word, Blank, Number, Quoted, Mark}
@@ -46,10 +47,11 @@ symbol_of Number bytes = symbol.Number
 symbol_of Quoted bytes = symbol.Quoted
 symbol_of Mark bytes = unwrap_or (named_in marks bytes) symbol.Question
 
--- words and numbers keep what they are written as
+-- words and numbers keep what they are written as, and a string what it stands for
 abbrev pub text_of : TokenKind → List ℕ → List ℕ
 text_of Word bytes = bytes
 text_of Number bytes = bytes
+text_of Quoted bytes = unwrap_or (quoted bytes) []
 text_of kind bytes = []
 
 -- a token with its symbol, and the text that it keeps

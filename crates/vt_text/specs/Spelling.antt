@@ -47,3 +47,9 @@ pub record IsBadAt (text : List ℕ) (line : ℕ) : Type 0 where
   pub left : rest ≢ []
   pub none : (kind : Option TokenKind) (bytes after : List ℕ) → rest ≡ bytes ++ after → Stands kind bytes after → ⊥
   pub on : line ≡ line_after (joined pieces)
+
+-- these are neighbours among the tokens that the text spells
+pub record AreAmong (text : List ℕ) (tokens : List Token) : Type 0 where
+  pub before : List Token
+  pub after : List Token
+  pub spelled : Spells text (before ++ tokens ++ after)

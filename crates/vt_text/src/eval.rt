@@ -41,25 +41,12 @@ fn chain(first: Option<Value>, rest: &[Operand], values: &[Option<Value>]) -> Op
 }
 
 // The value of a slot.
-fn slot(values: &[Option<Value>], i: u16) -> Option<Value>
+fn slot(values: &[Option<Value>], i: usize) -> Option<Value>
     ensures { result ≡ slot_value values.now i }
 {
-    match values.get(i as usize) {
-        Some(Some(value)) => Some(shared(value)),
+    match values.get(i) {
+        Some(Some(value)) => Some(value.share()),
         _ => None,
-    }
-}
-
-// The same value once more.
-fn shared(value: &Value) -> Value
-    ensures { result ≡ value.now }
-{
-    match value {
-        Value::Bool(b) => Value::Bool(*b),
-        Value::Int(n) => Value::Int(*n),
-        Value::Text(text) => Value::Text(text.share()),
-        Value::Enum(e, l) => Value::Enum(*e, *l),
-        Value::Obj(o) => Value::Obj(*o),
     }
 }
 

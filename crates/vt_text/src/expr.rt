@@ -20,7 +20,7 @@ pub enum Operator {
     Remainder,
 }
 
-/// An expression. Its values come from slots, which it names by number.
+/// An expression. Its values come from slots, which it names by their places in a list.
 #[derive(Debug, Drop)]
 #[cycle(expr)]
 pub enum Expr {
@@ -29,7 +29,7 @@ pub enum Expr {
     Text(Text),
     /// The number of an enum, and of a literal of it.
     Enum(u16, u16),
-    Slot(u16),
+    Slot(usize),
     Negative(Boxed<Expr>),
     Not(Boxed<Expr>),
     /// Operands with operators between them, which group from the left. A whole chain of one level

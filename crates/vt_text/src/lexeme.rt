@@ -6,6 +6,7 @@ ghost use Rattle.vt_text.specs.Spelling.{Spells};
 ghost use Rattle.vt_text.specs.Spans.{IsSlice};
 ghost use Rattle.vt_text.specs.Lexemes.{keywords, marks, named_in, symbol_of, text_of, lexeme_of, lexemes_of};
 
+use crate::quoting::quoted;
 use crate::{Token, TokenKind};
 use std::alloc::Global;
 use vt_base::{List, NoMemory, Text};
@@ -98,7 +99,11 @@ fn kept(alloc: Global, kind: TokenKind, bytes: &str, nothing: &Text) -> Result<T
 {
     match kind {
         TokenKind::Word | TokenKind::Number => Text::new(alloc, bytes),
-        TokenKind::Blank | TokenKind::Quoted | TokenKind::Mark => Ok(nothing.share()),
+        TokenKind::Quoted => match quoted(alloc, bytes)? {
+            Some(text) => Ok(text),
+            None => Ok(nothing.share()),
+        },
+        TokenKind::Blank | TokenKind::Mark => Ok(nothing.share()),
     }
 }
 
@@ -125,8 +130,8 @@ fn lexeme(alloc: Global, text: &str, token: Token, nothing: &Text) -> Result<Lex
     })
 }
 
-// The lexemes of tokens, each of which is a slice of the text.
-fn each(alloc: Global, text: &str, tokens: &[Token]) -> Result<List<Lexeme>, NoMemory>
+/// The lexemes of tokens, each of which is a slice of the text.
+pub(crate) fn each(alloc: Global, text: &str, tokens: &[Token]) -> Result<List<Lexeme>, NoMemory>
     requires { AllByRecursion (IsSlice text.now 0) tokens.now }
     ensures { IfOk result (λ lexemes. lexemes ≡ lexemes_of text.now tokens.now) }
 {

@@ -1,6 +1,7 @@
 //! Texts and expressions with what each must give. In a table each line is a case.
 mod expressions;
 mod lexemes;
+mod parsing;
 mod texts;
 
 use std::alloc::Global;

@@ -1,9 +1,9 @@
 -- The grammar of query files, as far as they are narrow.
-use Rattle.std.specs.Prelude.{ℕ, List, Bool, is_none}
+use Rattle.std.specs.Prelude.{List, Bool, is_none}
 use Rattle.vt_grammar.specs.declared.symbol.Symbol.TheVariants as symbol
-use Rattle.vt_grammar.specs.declared.lexeme.Lexeme.{Lexeme}
 use Rattle.vt_grammar.specs.Grammar.{Grammar, token, alt, star, made}
 use Rattle.vt_grammar.specs.Forms.{◌&◌, after, before, separated, some_of, maybe}
+use Rattle.vt_text.specs.Words.{identifier, feature_name}
 use Rattle.vt_vql.specs.declared.tree.FileTree.{FileTree}
 use Rattle.vt_vql.specs.declared.tree.PatternTree.{PatternTree}
 use Rattle.vt_vql.specs.declared.tree.ParamTree.{ParamTree}
@@ -11,35 +11,6 @@ use Rattle.vt_vql.specs.declared.tree.ConstraintTree.{ConstraintTree}
 use Rattle.vt_vql.specs.declared.tree.ConstraintTree.TheVariants as constraint_tree
 use Rattle.vt_vql.specs.declared.tree.TermTree.{TermTree}
 use Rattle.vt_vql.specs.declared.tree.TermTree.TheVariants as term_tree
-
--- ID
-abbrev pub identifier : Grammar (List ℕ)
-identifier = made (λ l. l.text) (token symbol.Identifier)
-
--- an ID, or a keyword: behind a dot it is a feature's name
-abbrev pub any_word : Grammar Lexeme
-any_word =
-    (alt (token symbol.Identifier)
-    (alt (token symbol.Package)
-    (alt (token symbol.Import)
-    (alt (token symbol.Pattern)
-    (alt (token symbol.Private)
-    (alt (token symbol.Or)
-    (alt (token symbol.Find)
-    (alt (token symbol.Neg)
-    (alt (token symbol.Check)
-    (alt (token symbol.Eval)
-    (alt (token symbol.Sum)
-    (alt (token symbol.Min)
-    (alt (token symbol.Max)
-    (alt (token symbol.Avg)
-    (alt (token symbol.Count)
-    (alt (token symbol.Java)
-    (alt (token symbol.True)
-    (token symbol.False))))))))))))))))))
-
-abbrev pub feature_name : Grammar (List ℕ)
-feature_name = made (λ l. l.text) any_word
 
 -- term = ID | "_"
 abbrev pub term : Grammar TermTree

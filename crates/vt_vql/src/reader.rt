@@ -2,64 +2,19 @@
 ghost use Rattle.std.specs.Prelude.{◌≡◌};
 ghost use Rattle.vt_grammar.specs.Grammar.{alt, star};
 ghost use Rattle.vt_grammar.specs.Forms.{maybe, after, some_of, separated, applied};
-ghost use Rattle.vt_grammar.specs.Reading.{read as reading, first};
+ghost use Rattle.vt_grammar.specs.Reading.{read as reading};
 ghost use Rattle.vt_grammar.specs.Gives.{Gives};
 ghost use Rattle.vt_grammar.specs.Grammar.{token};
 ghost use Rattle.vt_grammar.specs.declared.symbol.Symbol.TheVariants as symbol;
-ghost use Rattle.vt_vql.specs.Rules.{identifier, any_word, feature_name, term, param, shown};
+ghost use Rattle.vt_text.specs.Words.{identifier};
+ghost use Rattle.vt_vql.specs.Rules.{term, param, shown};
 ghost use Rattle.vt_vql.specs.Inside.Factored.{type_rest, feature_rest, constraint, line, body, pattern, file};
 
 use crate::{ConstraintTree, FileTree, ParamTree, PatternTree, TermTree};
 use std::alloc::Global;
 use vt_base::{List, Text};
 use vt_grammar::{Lexeme, Member, Stop, Symbol, is_next, more, one};
-
-// ---- words
-
-#[tactic(auto, unfolding(vt_grammar::specs::Reading::read))]
-fn identifier(lexemes: &[Lexeme]) -> Result<(Text, &[Lexeme]), Stop>
-    ensures { Gives (λ x. (x.0, x.1.now)) result (reading identifier lexemes.now) }
-{
-    let (lexeme, rest) = one(lexemes, Symbol::Identifier)?;
-    Ok((lexeme.text.share(), rest))
-}
-
-// Whether a symbol is that of an identifier or of a keyword.
-fn is_word(symbol: Symbol) -> bool
-    ensures { result ≡ first any_word symbol }
-{
-    matches!(
-        symbol,
-        Symbol::Identifier
-            | Symbol::Package
-            | Symbol::Import
-            | Symbol::Pattern
-            | Symbol::Private
-            | Symbol::Or
-            | Symbol::Find
-            | Symbol::Neg
-            | Symbol::Check
-            | Symbol::Eval
-            | Symbol::Sum
-            | Symbol::Min
-            | Symbol::Max
-            | Symbol::Avg
-            | Symbol::Count
-            | Symbol::Java
-            | Symbol::True
-            | Symbol::False
-    )
-}
-
-// A feature's name, which may be a keyword.
-fn feature_name(lexemes: &[Lexeme]) -> Result<(Text, &[Lexeme]), Stop>
-    ensures { Gives (λ x. (x.0, x.1.now)) result (reading feature_name lexemes.now) }
-{
-    match lexemes.split_first() {
-        Some((lexeme, rest)) if is_word(lexeme.symbol) => Ok((lexeme.text.share(), rest)),
-        _ => Err(Stop::Fault(lexemes.len())),
-    }
-}
+use vt_text::{feature_name, identifier};
 
 // ---- constraints
 

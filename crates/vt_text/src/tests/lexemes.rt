@@ -100,7 +100,7 @@ TRUE→Identifier 1 TRUE|
 __→Identifier 1 __|
 or or1 or→Or 1 or|Identifier 1 or1|Or 1 or|"#;
 
-// ---- words and numbers alone keep their text
+// ---- words and numbers keep their text, and strings what they stand for
 
 const TEXTS: &str = r#"→
 // find→
@@ -110,8 +110,9 @@ _→Blank 1 |
 9223372036854775807→Number 1 9223372036854775807|
 -1→Minus 1 |Number 1 1|
 ""→Quoted 1 |
-"find"→Quoted 1 |
-"é\"é"→Quoted 1 |
+"find"→Quoted 1 find|
+"é\"é"→Quoted 1 é"é|
+"a\n\t\\"→Quoted 1 a␊␉\|
 a.b1→Identifier 1 a|Dot 1 |Identifier 1 b1|
 x==_→Identifier 1 x|Equal 1 |Blank 1 |"#;
 
@@ -120,7 +121,7 @@ x==_→Identifier 1 x|Equal 1 |Blank 1 |"#;
 const LINES: &str = r#"a␊b␍␊␊c→Identifier 1 a|Identifier 2 b|Identifier 4 c|
 ␊␊7→Number 3 7|
 _ /*␊*/ _→Blank 1 |Blank 2 |
-"é" "é"␊"é"→Quoted 1 |Quoted 1 |Quoted 2 |
+"é" "é"␊"é"→Quoted 1 é|Quoted 1 é|Quoted 2 é|
 { n; // é␊}␊or→LeftBrace 1 |Identifier 1 n|Semicolon 1 |RightBrace 2 |Or 3 or|"#;
 
 #[test]
