@@ -57,6 +57,3 @@ pub use names::Names;
 pub use writing::{write_tuple, write_value};
 // Counted steps.
 pub use steps::Steps;
-
-#[cfg(test)]
-mod tests;

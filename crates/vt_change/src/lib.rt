@@ -26,6 +26,3 @@ pub use applying::try_apply;
 pub use fault::ApplyFault;
 // What holds of every way back.
 pub use laws::leads_back_with_more_room;
-
-#[cfg(test)]
-mod tests;

@@ -27,8 +27,6 @@ mod beginning;
 mod events;
 mod replies;
 mod running;
-#[cfg(test)]
-mod tests;
 mod unbuilt;
 // What holds of every run.
 mod laws;

@@ -16,6 +16,3 @@ pub use deltas::Deltas;
 pub use laws::{
     a_net_delta_leads_on, a_net_delta_stays_net, deltas_turn_with_their_rows, net_deltas_lead_on,
 };
-
-#[cfg(test)]
-mod tests;

@@ -27,6 +27,3 @@ pub use stop::Stop;
 // The end of a reading, and what holds of every grammar.
 pub use laws::{fault_spells_nothing, one_fault, one_tree, reading_is_spelling, spells_or_fault};
 pub use spelled::{Spelled, whole};
-
-#[cfg(test)]
-mod tests;

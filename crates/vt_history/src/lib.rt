@@ -10,6 +10,3 @@ mod events;
 
 // What is told of a step.
 pub use report::{PatternEvents, StepReport};
-
-#[cfg(test)]
-mod tests;

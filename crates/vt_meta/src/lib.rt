@@ -19,8 +19,6 @@ mod resolved;
 mod types;
 // What holds of every metamodel that is read, and of documents.
 mod laws;
-#[cfg(test)]
-mod tests;
 
 // From bytes to a metamodel, or the first fault.
 pub use document::has_format_one;

@@ -19,6 +19,3 @@ mod plan;
 pub use loading::{ModelFault, read_model, read_store};
 // The text of a model.
 pub use dump::write_model;
-
-#[cfg(test)]
-mod tests;

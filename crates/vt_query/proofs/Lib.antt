@@ -2,4 +2,3 @@ pub mod HoldingLemmas
 pub mod TablesLemmas
 pub mod NarrowLemmas
 pub mod NamedLemmas
-mod SampleLemmas

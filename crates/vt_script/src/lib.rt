@@ -24,6 +24,3 @@ pub use fault::ScriptFault;
 pub use script::read_script;
 // What holds of every script.
 pub use laws::accepted_is_formed;
-
-#[cfg(test)]
-mod tests;

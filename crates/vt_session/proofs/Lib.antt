@@ -3,4 +3,3 @@ mod DenialLemmas
 mod StateLemmas
 mod LiveLemmas
 mod NextLemmas
-mod SampleLemmas

@@ -14,6 +14,3 @@ mod session;
 // A session, and what its calls answer.
 pub use fault::{SessionFault, StartFault};
 pub use session::Session;
-
-#[cfg(test)]
-mod tests;

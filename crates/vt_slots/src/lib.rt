@@ -19,6 +19,3 @@ pub use slot::{Body, Side, Slot};
 pub use values::{Held, Values};
 // All objects, by number and by name.
 pub use slots::Slots;
-
-#[cfg(test)]
-mod tests;

@@ -23,6 +23,3 @@ pub use like::Like;
 pub use walk::Walk;
 // The set.
 pub use sorted::Sorted;
-
-#[cfg(test)]
-mod tests;

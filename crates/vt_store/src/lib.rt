@@ -21,8 +21,6 @@ mod relinking;
 mod reverting;
 // What holds of every edit.
 mod laws;
-#[cfg(test)]
-mod tests;
 
 // A store, what a change did, and why it wasn't made.
 pub use edit::Edit;

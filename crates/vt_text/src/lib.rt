@@ -51,6 +51,3 @@ pub use laws::{
     all_are_among, bad_spells_nothing, each_mark_has_a_symbol, one_bad_line, one_expression,
     one_list, spells_or_is_bad, strings_are_quoted, tokens_are_slices, values_have_the_kind,
 };
-
-#[cfg(test)]
-mod tests;

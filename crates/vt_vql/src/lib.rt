@@ -24,6 +24,3 @@ pub use fault::QueryFault;
 pub use queries::read_queries;
 // What holds of every file.
 pub use laws::{accepted_has_no_fault, accepted_is_narrow, one_fault, one_program};
-
-#[cfg(test)]
-mod tests;

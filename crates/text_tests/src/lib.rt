@@ -1,0 +1,11 @@
+//! Tests of grammars, tokens and expressions: that calls succeed, which no clause says, and that
+//! definitions say what one expects.
+//!
+//! A crate with tests is proved twice, so those of the crates below stand here, with no code beside
+//! them.
+#![tactic(auto)]
+
+#[cfg(test)]
+mod grammar;
+#[cfg(test)]
+mod text;

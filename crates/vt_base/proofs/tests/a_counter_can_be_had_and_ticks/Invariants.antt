@@ -1,5 +1,0 @@
-use Rattle.vt_base.proofs.tests.a_counter_can_be_had_and_ticks.Given as goal
-
--- the ledger is the new one's
-abbrev pub ghosts-count : goal.ghosts-count
-ghosts-count a = record { name = a.blank.name; parts = a.blank.parts }

@@ -1,8 +1,0 @@
-use Rattle.std.proofs.Common.{refl}
-use Rattle.std.specs.List.Sorted.{IsStrictlySortedBy}
-use Rattle.vt_history.proofs.tests.of_each_kind.Goals as goal
-
--- each is below those behind it
-pub returns : goal.returns
-unfolding IsStrictlySortedBy
-returns c = ((refl, (refl, (refl, (refl, tt)))), ((refl, (refl, (refl, tt))), ((refl, (refl, tt)), ((refl, tt), (tt, tt)))))

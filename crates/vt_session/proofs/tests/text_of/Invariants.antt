@@ -1,5 +1,0 @@
-use Rattle.vt_session.proofs.tests.text_of.Given as goal
-
--- the ledger is the new one's
-abbrev pub ghosts-answers : goal.ghosts-answers
-ghosts-answers a = record { name = a.blank.name; parts = a.blank.parts }

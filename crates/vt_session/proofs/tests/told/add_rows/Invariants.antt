@@ -1,6 +1,0 @@
-use Rattle.std.proofs.Common.{length}
-use Rattle.vt_session.proofs.tests.told.add_rows.Given as goal
-
--- the rows to come
-abbrev pub decreases-loop-row : goal.decreases-loop-row
-decreases-loop-row l = length l.walk
