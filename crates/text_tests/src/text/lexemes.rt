@@ -4,7 +4,7 @@ use std::alloc::Global;
 use std::test::Fail;
 use vt_base::List;
 use vt_grammar::Lexeme;
-use vt_text::{lexemes, tokens};
+use vt_tokens::{lexemes, tokens};
 
 fn lexemes_of(alloc: Global, text: &str) -> Result<List<Lexeme>, Fail> {
     if text.len() >= 1_000_000 {

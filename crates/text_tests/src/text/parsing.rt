@@ -3,9 +3,8 @@ use super::repeated;
 use std::alloc::Global;
 use std::test::Fail;
 use vt_base::{Kind, List, Names, NoMemory, ObjId, Plain, Text, Value};
-use vt_text::{
-    Expr, ExprFault, Parsed, Slot, all_are_among, lexemes, parse_expr, read_expr, tokens,
-};
+use vt_text::{Expr, ExprFault, Parsed, Slot, parse_expr, read_expr};
+use vt_tokens::{all_are_among, lexemes, tokens};
 
 // One enum with two literals.
 #[derive(Drop)]

@@ -2,7 +2,7 @@
 use super::{repeated, unpictured};
 use std::alloc::Global;
 use std::test::Fail;
-use vt_text::{Token, TokenFault, tokens};
+use vt_tokens::{Token, TokenFault, tokens};
 
 // The kind, the line and the bytes of each token, or the line on which the text is bad.
 fn outcome(alloc: Global, text: &str) -> Result<String, Fail> {
