@@ -46,7 +46,7 @@ impl Names for Sizes {
     }
 }
 
-fn sizes(alloc: Global) -> Result<Sizes, NoMemory> {
+fn two_sizes(alloc: Global) -> Result<Sizes, NoMemory> {
     Ok(Sizes {
         size: Text::new(alloc, "Size")?,
         small: Text::new(alloc, "SMALL")?,
@@ -133,7 +133,7 @@ fn parsed(alloc: Global, text: &str, attributes: bool) -> Result<Parsed, ExprFau
         Err(_) => return Err(ExprFault::NoMemory),
     };
     let lexemes = lexemes(alloc, text, tokens.as_slice())?;
-    let names = sizes(alloc)?;
+    let names = two_sizes(alloc)?;
     read_expr(alloc, lexemes.as_slice(), attributes, &names)
 }
 
@@ -330,7 +330,7 @@ fn of_tokens(alloc: Global, text: &str) -> Result<Parsed, ExprFault> {
         Ok(tokens) => tokens,
         Err(_) => return Err(ExprFault::NoMemory),
     };
-    let names = sizes(alloc)?;
+    let names = two_sizes(alloc)?;
     all_are_among();
     parse_expr(alloc, text, tokens.as_slice(), true, &names)
 }
