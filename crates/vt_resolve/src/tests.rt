@@ -99,12 +99,11 @@ fn first_unmet(
     resolver: &mut Box<dyn Resolver>,
     cases: &[Case],
 ) -> Result<Option<usize>, NoMemory> {
-    let mut place = 0;
-    for case in cases {
+    for place in 0..cases.len() {
+        let case = &cases[place];
         if !meets(alloc, resolver, case, false)? || !meets(alloc, resolver, case, true)? {
             return Ok(Some(place));
         }
-        place += 1;
     }
     Ok(None)
 }
