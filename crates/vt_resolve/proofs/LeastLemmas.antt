@@ -17,7 +17,7 @@ use Rattle.vt_sorted.proofs.AscendingLemmas.{less_back, greater_back}
 use Rattle.vt_resolve.specs.Choice.{is_preceded}
 use Rattle.vt_resolve.specs.Inside.InOrder.{in_order}
 use Rattle.vt_resolve.specs.Inside.EntryLaws.{then_second}
-use Rattle.vt_resolve.proofs.InOrderLemmas.{into_order, out_of_order}
+use Rattle.vt_resolve.proofs.InOrderLemmas.{in_order-ascends, into_order, out_of_order}
 
 or_left : (a b : Bool) → (a || b) ≡ false → a ≡ false
 or_left true b e = e
@@ -76,6 +76,21 @@ module _ {K : Type 0} (R : K → K → Ordering) (o : IsTotalOrder R) where
       let same : found.0 ≡ x = exact found.0 x (tied found.0 x (first found.0 other.0) (fails_there (λ f. is_lt (R f found.0)) xs x none c)) in
       found.1 ∙ ap Some same
 
+  -- of some items there is always one that none is before
+  pub none_found : CmpEqualImpliesEq R → (xs : List K) → find (λ e. not (is_preceded R xs e)) xs ≡ None → xs ≡ []
+  none_found exact [] e = refl
+  none_found exact (x ∷ xs) e = by (in_order R (x ∷ xs)) refl
+    where
+      into : (f : K) → Contains (x ∷ xs) f → Contains (in_order R (x ∷ xs)) f
+      into f c = into_order R R o exact o exact (x ∷ xs) f c
+
+      by : (ys : List K) → in_order R (x ∷ xs) ≡ ys → x ∷ xs ≡ []
+      by [] is = absurd (Contains-nil x (subst (λ l. Contains l x) is (into x (Contains-head x xs))))
+      by (y ∷ ys) is =
+          let there = out_of_order R R o exact o exact (x ∷ xs) y (subst (λ l. Contains l y) (sym is) (Contains-head y ys)) in
+          let rises = subst (IsStrictlySortedBy R) is (in_order-ascends R o exact (x ∷ xs)) in
+          absurd (no_item y (sym e ∙ least_is exact (x ∷ xs) y there (λ f c. not_before_first y ys rises f (subst (λ l. Contains l f) is (into f c)))))
+
 -- ---- the first in one order, where the list is told in another
 
 pub least-in_order : {K : Type 0} (R S : K → K → Ordering) (o : IsTotalOrder R) (exact : CmpEqualImpliesEq R) (os : IsTotalOrder S) (exact_s : CmpEqualImpliesEq S)
@@ -91,10 +106,10 @@ module _ {K : Type 0} (S : K → K → Ordering) (os : IsTotalOrder S) (exact_s 
   abbrev pub turned : K → K → Ordering
   turned a b = ordering_then (nat_cmp (cond (passed a) 1 0) (cond (passed b) 1 0)) (S a b)
 
-  turned_total : IsTotalOrder turned
+  pub turned_total : IsTotalOrder turned
   turned_total = then_total (on_total (λ (e : K). cond (passed e) 1 0) nat_cmp_total) os
 
-  turned_exact : CmpEqualImpliesEq turned
+  pub turned_exact : CmpEqualImpliesEq turned
   turned_exact a b e = exact_s a b (then_second _ _ e)
 
   -- of two items that the test doesn't tell apart

@@ -8,6 +8,8 @@
 // What is chosen among, and what a resolver owes.
 mod entry;
 mod resolver;
+// What follows from the definitions.
+mod laws;
 // An entry in an order, and the resolvers that pick the least under theirs.
 mod least;
 mod ranking;
@@ -20,6 +22,8 @@ mod turns;
 // What is chosen among, and what a resolver owes.
 pub use entry::Entry;
 pub use resolver::Resolver;
+// What follows from the definitions.
+pub use laws::{each_has_its_policy, one_of_some_is_chosen};
 // The resolvers that pick the least under their order.
 pub use least::LeastBy;
 // The four resolvers.

@@ -24,7 +24,8 @@ pub trait Resolver: Drop {
         ensures policy { (seen self.new).policy ≡ (seen self.old).policy }
         ensures last { (seen self.new).last ≡ (seen self.old).last }
         ensures held { (seen self.new).held ≡ (seen self.old).held }
-        ensures room { OnOk result (more ≤ (seen self.new).spare) };
+        ensures room { OnOk result (more ≤ (seen self.new).spare) }
+        ensures grows { (seen self.old).spare ≤ (seen self.new).spare };
 
     /// Holds one entry more, of a rule and match of which none is held. It fails for want of memory
     /// alone, never where there is room, and then hands the entry back.
