@@ -12,7 +12,8 @@ use crate::{Fixed, Inverted, Oldest, Resolver, Turns};
 
 /// Where there are entries, one of them is chosen.
 pub fn one_of_some_is_chosen()
-    ensures { (policy : Kind) (last : Maybe Rule) (entries : List Item) → choose policy last entries ≡ None → entries ≡ [] }
+    ensures { (policy : Kind) (last : Maybe Rule) (entries : List Item) →
+        choose policy last entries ≡ None → entries ≡ [] }
 {}
 
 /// Each resolver has the policy of its name.

@@ -33,7 +33,8 @@ pub trait Resolver: Drop {
         requires fresh { holds_match (seen self.old).held entry ≡ false }
         ensures policy { (seen self.new).policy ≡ (seen self.old).policy }
         ensures last { (seen self.new).last ≡ (seen self.old).last }
-        ensures held { OnOk result ((seen self.new).held ≡ with_item by_match (seen self.old).held entry) }
+        ensures held { OnOk result
+            ((seen self.new).held ≡ with_item by_match (seen self.old).held entry) }
         ensures unchanged { OnErr result ((seen self.new).held ≡ (seen self.old).held) }
         ensures comes_back { IfErr result (λ back. back ≡ entry) }
         ensures succeeds { 1 ≤ (seen self.old).spare → IsOk result }
@@ -49,7 +50,8 @@ pub trait Resolver: Drop {
 
     /// The entry that its policy picks. `None` is of a resolver that holds none.
     fn pick(&self) -> Option<&Entry>
-        ensures { option_copied result ≡ choose (seen self.now).policy (seen self.now).last (seen self.now).held };
+        ensures { option_copied result ≡
+            choose (seen self.now).policy (seen self.now).last (seen self.now).held };
 
     /// Keeps the rule as the one that fired last.
     fn fired(&mut self, rule: RuleId)

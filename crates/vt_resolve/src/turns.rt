@@ -128,7 +128,8 @@ fn in_turn(held: &Sorted<Ranked<ByMatch>>, last: RuleId) -> Option<&Entry>
 
 // The first entry of a rule after this one.
 fn first_after(held: &Sorted<Ranked<ByMatch>>, last: RuleId) -> Option<&Entry>
-    ensures { option_copied result ≡ slice_get (items_after (is_passed (Some last)) held.now.items) 0 }
+    ensures { option_copied result ≡
+        slice_get (items_after (is_passed (Some last)) held.now.items) 0 }
 {
     let mut later = held.walk_after(&Passed { last });
     match later.next() {

@@ -1,7 +1,7 @@
 -- The orders of entries are total, and entries that tie are one.
 use Rattle.std.specs.Prelude.{◌≡◌, ℕ, ◌≤◌, true, false, nat_le, refl}
-use Rattle.std.proofs.Common.{arith}
-use Rattle.std.proofs.lemmas.Bool.Decides.{nat_tests}
+use Rattle.std.proofs.Common.{le_trans}
+use Rattle.std.proofs.lemmas.Bool.{leb-true, le-leb}
 use Rattle.std.specs.declared.option.Option.TheVariants.{Some}
 use Rattle.std.specs.declared.cmp.Ordering.{Ordering}
 use Rattle.std.specs.declared.cmp.Ordering.TheVariants.{Less, Equal, Greater}
@@ -91,7 +91,7 @@ not_gt Equal b e = refl
 not_gt Greater b e = cc
 
 no_later : (m n last : ℕ) → m ≤ n → nat_le n last ≡ true → nat_le m last ≡ true
-no_later m n last l e = grind (arith, nat_tests)
+no_later m n last l e = le-leb m last (le_trans l (leb-true n last e))
 
 -- with an entry they have all that are before it
 pub passed_closed : (last : RuleId) (x y : Entry) → by_match x y ≡ Less → is_passed (Some last) y ≡ true → is_passed (Some last) x ≡ true
