@@ -1,0 +1,3 @@
+-- No public clause cites a module below.
+pub mod InOrder
+pub mod EntryLaws
