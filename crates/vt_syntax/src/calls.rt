@@ -20,7 +20,7 @@ use vt_text::{ExprTree, expr_tree, identifier};
 // ---- expressions
 
 // The expression that lexemes spell, where they spell one.
-#[tactic(auto, using(crate::proofs::ExpressionLemmas::spelled_is, crate::proofs::ExpressionLemmas::none_is))]
+#[tactic(auto, using(crate::proofs::ExpressionLemmas::tree_is))]
 fn expression(alloc: Global, lexemes: &[Lexeme]) -> Result<Option<ExprTree>, NoMemory>
     ensures { IfOk result (λ expr. expr ≡ expression_of lexemes.now) }
 {

@@ -24,6 +24,3 @@ pub use tree::{
 pub use file::read_file;
 // What holds of every list of lexemes.
 pub use laws::{balanced_is_longest, expression_is_spelled, part_goes_on};
-
-#[cfg(test)]
-mod tests;
