@@ -7,7 +7,7 @@ ghost use Rattle.vt_grammar.specs.Gives.{Gives};
 ghost use Rattle.vt_grammar.specs.declared.symbol.Symbol.TheVariants as symbol;
 ghost use Rattle.vt_text.specs.Words.{identifier};
 ghost use Rattle.vt_syntax.specs.Expressions.{expression_of};
-ghost use Rattle.vt_syntax.specs.Rules.{code, column, closure, agg, aggregate_with};
+ghost use Rattle.vt_syntax.specs.Terms.{code, column, closure, agg, aggregate_with};
 ghost use Rattle.vt_syntax.specs.Inside.Factored.{arg, call, right};
 
 use crate::terms::term;

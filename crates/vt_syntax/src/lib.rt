@@ -1,7 +1,7 @@
 //! Query files as they are written: their grammar, and how lexemes are read by it.
 //!
-//! It stands on `vt_grammar` and `vt_text`. Read `specs/Expressions.antt`, `specs/Rules.antt`, then
-//! `specs/Parts.antt`.
+//! It stands on `vt_grammar` and `vt_text`. Read `specs/Expressions.antt`, `specs/Terms.antt`,
+//! `specs/Rules.antt`, then `specs/Parts.antt`.
 #![tactic(auto)]
 
 // What a file spells.

@@ -5,7 +5,8 @@ ghost use Rattle.vt_grammar.specs.Forms.{◌&◌, maybe, after, some_of, separat
 ghost use Rattle.vt_grammar.specs.Reading.{read as reading};
 ghost use Rattle.vt_grammar.specs.Gives.{Gives};
 ghost use Rattle.vt_grammar.specs.declared.symbol.Symbol.TheVariants as symbol;
-ghost use Rattle.vt_syntax.specs.Rules.{skipped, type_name, param, annotation, shown};
+ghost use Rattle.vt_syntax.specs.Terms.{skipped, type_name};
+ghost use Rattle.vt_syntax.specs.Rules.{param, annotation, shown};
 ghost use Rattle.vt_syntax.specs.Inside.Factored.{body, pattern};
 
 use crate::constraints::body;

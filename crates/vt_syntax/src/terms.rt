@@ -3,7 +3,7 @@ ghost use Rattle.std.specs.Prelude.{◌≡◌};
 ghost use Rattle.vt_grammar.specs.Forms.{applied};
 ghost use Rattle.vt_grammar.specs.Reading.{read as reading};
 ghost use Rattle.vt_grammar.specs.Gives.{Gives};
-ghost use Rattle.vt_syntax.specs.Rules.{qualified_name, integer, truth, java_type, type_name};
+ghost use Rattle.vt_syntax.specs.Terms.{qualified_name, integer, truth, java_type, type_name};
 ghost use Rattle.vt_syntax.specs.Inside.Factored.{literal_rest, name_rest, named, plain, term};
 
 use crate::{TermTree, TypeTree};

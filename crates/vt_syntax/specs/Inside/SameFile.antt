@@ -6,7 +6,9 @@ use Rattle.vt_grammar.specs.Forms.{◌&◌, separated, some_of}
 use Rattle.vt_grammar.specs.SameAs.{SameAs}
 use Rattle.vt_grammar.specs.Inside.SameLaws.{same_itself, same_seq, same_made, same_alt, same_star, same_after, same_before, same_separated, same_some_of}
 use Rattle.vt_text.specs.Words.{identifier, feature_name}
-use Rattle.vt_syntax.specs.Rules.{java_type, type_name, column, closure, agg, code, find_with, check, enclosed_with, ends_with, path_of, call_with, aggregate_with, right_with, body_with, pattern_with, file_with, annotation, shown, param, package_line, import_line}
+use Rattle.vt_syntax.specs.Terms.{java_type, type_name, column, closure, agg, code, call_with, aggregate_with, right_with}
+use Rattle.vt_syntax.specs.Terms as written
+use Rattle.vt_syntax.specs.Rules.{find_with, check, enclosed_with, ends_with, path_of, body_with, pattern_with, file_with, annotation, shown, param, package_line, import_line}
 use Rattle.vt_syntax.specs.Rules as rule
 use Rattle.vt_syntax.specs.Inside.Factored.{literal_rest, variable_rest, named, plain, equal_rest, differ_rest, comparison, type_rest, path_rest, compared_rest, constraint_rest, named_constraint, plain_constraint, java_constraint}
 use Rattle.vt_syntax.specs.Inside.Factored as one
@@ -27,21 +29,21 @@ behind_name rest = made (λ x. x.1 x.0) (identifier & rest)
 -- ---- terms
 
 -- a literal or a variable begins with a name
-same_name : SameAs (alt rule.literal (made term_tree.Variable identifier)) named
+same_name : SameAs (alt written.literal (made term_tree.Variable identifier)) named
 same_name = same_through _ (alt (behind_name literal_rest) (behind_name variable_rest)) _
     (same_alt _ _ _ _
     (same_turned (λ x name. term_tree.Literal name x.1) identifier (token symbol.DoubleColon & feature_name))
     (same_ended term_tree.Variable identifier (λ ls y h. inr (h.0, h.1.0, h.1.1))))
     (same_join identifier literal_rest variable_rest)
 
-same_term : SameAs rule.term one.term
-same_term = same_through _ (alt (alt rule.literal (made term_tree.Variable identifier)) plain) _
+same_term : SameAs written.term one.term
+same_term = same_through _ (alt (alt written.literal (made term_tree.Variable identifier)) plain) _
     (same_order _ _ _ _ _ _)
     (same_alt _ _ _ _ same_name (same_itself plain))
 
 -- ---- calls
 
-same_call : SameAs rule.call one.call
+same_call : SameAs written.call one.call
 same_call = same_made _ _ _
     (same_seq _ _ _ _ (same_itself identifier)
     (same_seq _ _ _ _ (same_itself closure)
@@ -51,20 +53,20 @@ same_call = same_made _ _ _
     (same_alt _ _ _ _ (same_made arg_tree.Term _ _ same_term) (same_itself column))))
     (same_itself (token symbol.RightParen))))))
 
-same_right : SameAs rule.right one.right
+same_right : SameAs written.right one.right
 same_right = same_alt _ _ _ _ (same_made right_tree.Term _ _ same_term)
     (same_alt _ _ _ _ (same_itself (made right_tree.Eval (code symbol.Eval)))
     (same_made _ _ _ (same_seq _ _ _ _ (same_itself agg) (same_seq _ _ _ _ (same_itself (token symbol.Find)) same_call))))
 
-same_find : SameAs (find_with rule.call) (find_with one.call)
+same_find : SameAs (find_with written.call) (find_with one.call)
 same_find = same_made _ _ _ (same_seq _ _ _ _ (same_itself _) (same_seq _ _ _ _ (same_itself (token symbol.Find)) same_call))
 
 -- ---- constraints
 
-same_enclosed : SameAs (enclosed_with rule.term) (enclosed_with one.term)
+same_enclosed : SameAs (enclosed_with written.term) (enclosed_with one.term)
 same_enclosed = same_made _ _ _ (same_seq _ _ _ _ (same_itself (token symbol.LeftParen)) (same_seq _ _ _ _ same_term (same_itself (token symbol.RightParen))))
 
-same_ends : SameAs (ends_with rule.term) (ends_with one.term)
+same_ends : SameAs (ends_with written.term) (ends_with one.term)
 same_ends = same_made _ _ _
     (same_seq _ _ _ _ (same_itself (token symbol.Dot))
     (same_seq _ _ _ _ (same_itself (separated (token symbol.Dot) feature_name))
