@@ -227,7 +227,10 @@ fn long_lists_are_read(rt: HostRuntime) -> Result<(), Fail> {
     text.push_str(repeated(alloc, ")", 20_000)?.as_str())?;
     let text = text.as_str();
     let check = format!(in alloc; "check({text})")?;
-    assert_eq!(rt; constraint_outcome(alloc, check.as_str())?.as_str(), "check@1(!)");
+    assert_eq!(rt;
+        constraint_outcome(alloc, check.as_str())?.as_str(),
+        "check@1(!)"
+    );
 
     let file = repeated(alloc, "pattern p() { T(x); }", 2_000)?;
     let lexemes = lexemes_of(alloc, file.as_str())?;

@@ -4,8 +4,8 @@ use std::alloc::Global;
 use std::test::Fail;
 use vt_base::{AggKind, Text};
 use vt_syntax::{
-    AggTree, ArgTree, BodyTree, CallTree, CodeTree, ConstraintTree, FileTree, ParamTree, PatternTree,
-    RightTree, TermTree, TypeTree,
+    AggTree, ArgTree, BodyTree, CallTree, CodeTree, ConstraintTree, FileTree, ParamTree,
+    PatternTree, RightTree, TermTree, TypeTree,
 };
 
 // ---- terms and types
@@ -134,11 +134,24 @@ fn constraint(alloc: Global, constraint: &ConstraintTree) -> Result<String, Fail
             all.push(')')?;
             Ok(all)
         }
-        ConstraintTree::Path { class, features, from, to } => {
-            path(alloc, class.as_str(), features.as_slice(), from, to)
-        }
-        ConstraintTree::Equal(left, r) => joined(alloc, term(alloc, left)?, " == ", right(alloc, r)?),
-        ConstraintTree::Differ(left, r) => joined(alloc, term(alloc, left)?, " != ", term(alloc, r)?),
+        ConstraintTree::Path {
+            class,
+            features,
+            from,
+            to,
+        } => { path(alloc, class.as_str(), features.as_slice(), from, to) }
+        ConstraintTree::Equal(left, r) => joined(
+            alloc,
+            term(alloc, left)?,
+            " == ",
+            right(alloc, r)?,
+        ),
+        ConstraintTree::Differ(left, r) => joined(
+            alloc,
+            term(alloc, left)?,
+            " != ",
+            term(alloc, r)?,
+        ),
     }
 }
 
@@ -164,7 +177,11 @@ fn param(alloc: Global, param: &ParamTree) -> Result<String, Fail> {
 }
 
 fn pattern(alloc: Global, pattern: &PatternTree) -> Result<String, Fail> {
-    let word = if pattern.shown { "pattern " } else { "private pattern " };
+    let word = if pattern.shown {
+        "pattern "
+    } else {
+        "private pattern "
+    };
     let mut all = String::from_str(alloc, word)?;
     all.push_str(pattern.name.as_str())?;
     all.push('(')?;

@@ -1,11 +1,11 @@
 -- Each part of a grammar can be gone on with, and reading takes the longest balanced front.
-use Rattle.std.proofs.Common.{◌≡◌, ◌≤◌, ◌⊎◌, inl, inr, ℕ, Bool, true, false, List, [], ◌∷◌, ◌++◌, map, length, Option, Some, None, Ok, refl, sym, ◌∙◌, ap, subst, append_assoc, append-nil, if◌then◌else◌}
+use Rattle.std.proofs.Common.{◌≡◌, ◌≤◌, inl, inr, Bool, true, false, List, [], ◌∷◌, ◌++◌, map, length, Option, Some, None, Ok, refl, sym, ◌∙◌, ap, subst, append_assoc, append-nil, if◌then◌else◌}
 use Rattle.vt_grammar.specs.declared.symbol.Symbol.{Symbol}
 use Rattle.vt_grammar.specs.declared.symbol.Symbol.TheVariants as symbol
 use Rattle.vt_grammar.specs.declared.lexeme.Lexeme.{Lexeme}
 use Rattle.vt_grammar.specs.Symbols.{same, closes, closer}
-use Rattle.vt_grammar.specs.Grammar.{Grammar, nothing, token, seq, alt, star, made, balanced, Join, Spells, SpellsAll, IsPart, close_one, open_one, step, still_open}
-use Rattle.vt_grammar.specs.Reading.{read, scan}
+use Rattle.vt_grammar.specs.Grammar.{Grammar, nothing, token, seq, alt, star, made, balanced, Spells, SpellsAll, IsPart, close_one, open_one, step, still_open}
+use Rattle.vt_grammar.specs.Reading.{read}
 use Rattle.vt_grammar.proofs.Exact.{Exact}
 use Rattle.vt_grammar.proofs.PartLemmas.{same_is, none_open, spells_part}
 use Rattle.vt_grammar.proofs.FaultLemmas.{part_front}

@@ -176,10 +176,7 @@ fn constraint_rest(
 // ---- constraints
 
 #[tactic(auto, using(crate::proofs::ReaderLemmas::constraint_read, crate::proofs::ReaderLemmas::constraint_fails))]
-fn named_constraint(
-    alloc: Global,
-    lexemes: &[Lexeme],
-) -> Result<(ConstraintTree, &[Lexeme]), Stop>
+fn named_constraint(alloc: Global, lexemes: &[Lexeme]) -> Result<(ConstraintTree, &[Lexeme]), Stop>
     ensures { Gives (λ x. (x.0, x.1.now)) result (reading named_constraint lexemes.now) }
 {
     let (name, rest) = identifier(lexemes)?;
@@ -188,10 +185,7 @@ fn named_constraint(
 }
 
 #[tactic(auto, using(crate::proofs::ReaderLemmas::plain_read, crate::proofs::ReaderLemmas::plain_fails))]
-fn plain_constraint(
-    alloc: Global,
-    lexemes: &[Lexeme],
-) -> Result<(ConstraintTree, &[Lexeme]), Stop>
+fn plain_constraint(alloc: Global, lexemes: &[Lexeme]) -> Result<(ConstraintTree, &[Lexeme]), Stop>
     ensures { Gives (λ x. (x.0, x.1.now)) result (reading plain_constraint lexemes.now) }
 {
     let (left, rest) = plain(lexemes)?;
@@ -200,10 +194,7 @@ fn plain_constraint(
 }
 
 #[tactic(auto, unfolding(vt_grammar::specs::Reading::read))]
-fn java_constraint(
-    alloc: Global,
-    lexemes: &[Lexeme],
-) -> Result<(ConstraintTree, &[Lexeme]), Stop>
+fn java_constraint(alloc: Global, lexemes: &[Lexeme]) -> Result<(ConstraintTree, &[Lexeme]), Stop>
     ensures { Gives (λ x. (x.0, x.1.now)) result (reading java_constraint lexemes.now) }
 {
     let (ty, rest) = java_type(alloc, lexemes)?;

@@ -21,10 +21,7 @@ use vt_text::identifier;
 
 // The type behind a colon, where there is one.
 #[tactic(auto, unfolding(vt_grammar::specs::Reading::read))]
-fn declared_type(
-    alloc: Global,
-    lexemes: &[Lexeme],
-) -> Result<(Option<TypeTree>, &[Lexeme]), Stop>
+fn declared_type(alloc: Global, lexemes: &[Lexeme]) -> Result<(Option<TypeTree>, &[Lexeme]), Stop>
     ensures { Gives (λ x. (x.0, x.1.now)) result
         (reading (maybe (after (token symbol.Colon) type_name)) lexemes.now) }
 {

@@ -52,7 +52,10 @@ pub enum ConstraintTree {
     /// `check(e)`
     Check(CodeTree),
     /// `Type(a)`
-    Type { ty: TypeTree, term: TermTree },
+    Type {
+        ty: TypeTree,
+        term: TermTree,
+    },
     /// `Class.feature.feature(a, b)`
     Path {
         class: Text,

@@ -1,11 +1,11 @@
 -- The grammar of query files with each common front taken once, as it is read.
 use Rattle.std.specs.Prelude.{ℕ, List}
 use Rattle.vt_grammar.specs.declared.symbol.Symbol.TheVariants as symbol
-use Rattle.vt_grammar.specs.Grammar.{Grammar, nothing, token, alt, star, made}
-use Rattle.vt_grammar.specs.Forms.{◌&◌, before, applied}
+use Rattle.vt_grammar.specs.Grammar.{Grammar, nothing, token, alt, made}
+use Rattle.vt_grammar.specs.Forms.{◌&◌, before}
 use Rattle.vt_text.specs.Words.{identifier, feature_name, string}
 use Rattle.vt_syntax.specs.Terms.{integer, truth, blank, java_type, column, call_with, right_with}
-use Rattle.vt_syntax.specs.Rules.{find_with, check, enclosed_with, Ends, ends_with, path_of, body_with, pattern_with, file_with}
+use Rattle.vt_syntax.specs.Rules.{find_with, check, enclosed_with, ends_with, path_of, body_with, pattern_with, file_with}
 use Rattle.vt_syntax.specs.declared.tree.FileTree.{FileTree}
 use Rattle.vt_syntax.specs.declared.tree.PatternTree.{PatternTree}
 use Rattle.vt_syntax.specs.declared.tree.BodyTree.{BodyTree}

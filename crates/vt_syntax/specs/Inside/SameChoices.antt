@@ -1,7 +1,7 @@
 -- Grammars that are the same: choices that are taken apart, put together and put in another order.
-use Rattle.std.proofs.Common.{◌≡◌, ◌⊎◌, inl, inr, List, [], ◌++◌, refl, sym, ◌∙◌, ap, subst, append_assoc, append-nil}
+use Rattle.std.proofs.Common.{inl, inr, List, [], ◌++◌, refl, sym, ◌∙◌, ap, subst, append_assoc, append-nil}
 use Rattle.vt_grammar.specs.declared.lexeme.Lexeme.{Lexeme}
-use Rattle.vt_grammar.specs.Grammar.{Grammar, nothing, seq, alt, made, Join, Spells, IsPart}
+use Rattle.vt_grammar.specs.Grammar.{Grammar, nothing, seq, alt, made, Spells, IsPart}
 use Rattle.vt_grammar.specs.SameAs.{SameAs}
 
 -- what a function that follows gives of what is before it
@@ -148,52 +148,62 @@ module _ {A B C : Type 0} (a : Grammar A) (b : Grammar (A → B)) (c : Grammar (
 
   regroup_to : (ls : List Lexeme) (x : C) → Spells in_front ls x → Spells behind ls x
   regroup_to ls x h =
-      let inner = h.1.first.1 in
-      ((h.1.first.0.0, λ y. h.0.1 (h.1.first.0.1 y)),
-      record {
-        front = inner.front;
-        back = inner.back ++ h.1.back;
-        whole = h.1.whole ∙ ap (λ s. s ++ h.1.back) inner.whole ∙ append_assoc inner.front inner.back h.1.back;
-        first = inner.first;
-        second = ((h.1.first.0.1, h.0.1), record { front = inner.back; back = h.1.back; whole = refl; first = inner.second; second = h.1.second }, refl);
-      }, ap h.0.1 h.1.first.2 ∙ h.2)
+      let inner = h.1.first.1 in (
+        (h.1.first.0.0, λ y. h.0.1 (h.1.first.0.1 y)),
+        record {
+          front = inner.front;
+          back = inner.back ++ h.1.back;
+          whole = h.1.whole ∙ ap (λ s. s ++ h.1.back) inner.whole ∙ append_assoc inner.front inner.back h.1.back;
+          first = inner.first;
+          second = ((h.1.first.0.1, h.0.1), record { front = inner.back; back = h.1.back; whole = refl; first = inner.second; second = h.1.second }, refl);
+        },
+        ap h.0.1 h.1.first.2 ∙ h.2,
+      )
 
   regroup_from : (ls : List Lexeme) (x : C) → Spells behind ls x → Spells in_front ls x
   regroup_from ls x h =
-      let inner = h.1.second.1 in
-      ((h.1.second.0.0 h.0.0, h.1.second.0.1),
-      record {
-        front = h.1.front ++ inner.front;
-        back = inner.back;
-        whole = h.1.whole ∙ ap (λ s. h.1.front ++ s) inner.whole ∙ sym (append_assoc h.1.front inner.front inner.back);
-        first = ((h.0.0, h.1.second.0.0), record { front = h.1.front; back = inner.front; whole = refl; first = h.1.first; second = inner.first }, refl);
-        second = inner.second;
-      }, ap (λ (g : A → C). g h.0.0) h.1.second.2 ∙ h.2)
+      let inner = h.1.second.1 in (
+        (h.1.second.0.0 h.0.0, h.1.second.0.1),
+        record {
+          front = h.1.front ++ inner.front;
+          back = inner.back;
+          whole = h.1.whole ∙ ap (λ s. h.1.front ++ s) inner.whole ∙ sym (append_assoc h.1.front inner.front inner.back);
+          first = ((h.0.0, h.1.second.0.0), record { front = h.1.front; back = inner.front; whole = refl; first = h.1.first; second = inner.first }, refl);
+          second = inner.second;
+        },
+        ap (λ (g : A → C). g h.0.0) h.1.second.2 ∙ h.2,
+      )
 
   regroup_part_to : (ls : List Lexeme) → IsPart in_front ls → IsPart behind ls
   regroup_part_to ls (inl (inl p)) = inl p
   regroup_part_to ls (inl (inr h)) = inr (h.0, record { front = h.1.front; back = h.1.back; whole = h.1.whole; first = h.1.first; second = inl h.1.second })
   regroup_part_to ls (inr h) =
       let inner = h.1.first.1 in
-      inr (h.1.first.0.0, record {
-        front = inner.front;
-        back = inner.back ++ h.1.back;
-        whole = h.1.whole ∙ ap (λ s. s ++ h.1.back) inner.whole ∙ append_assoc inner.front inner.back h.1.back;
-        first = inner.first;
-        second = inr (h.1.first.0.1, record { front = inner.back; back = h.1.back; whole = refl; first = inner.second; second = h.1.second });
-      })
+      inr (
+        h.1.first.0.0,
+        record {
+          front = inner.front;
+          back = inner.back ++ h.1.back;
+          whole = h.1.whole ∙ ap (λ s. s ++ h.1.back) inner.whole ∙ append_assoc inner.front inner.back h.1.back;
+          first = inner.first;
+          second = inr (h.1.first.0.1, record { front = inner.back; back = h.1.back; whole = refl; first = inner.second; second = h.1.second });
+        },
+      )
 
   regroup_part_from : (ls : List Lexeme) → IsPart behind ls → IsPart in_front ls
   regroup_part_from ls (inl p) = inl (inl p)
   regroup_part_from ls (inr h) = elim h.1.second [
     | inl p ↦ inl (inr (h.0, record { front = h.1.front; back = h.1.back; whole = h.1.whole; first = h.1.first; second = p }))
-    | inr k ↦ inr (k.0 h.0, record {
-      front = h.1.front ++ k.1.front;
-      back = k.1.back;
-      whole = h.1.whole ∙ ap (λ s. h.1.front ++ s) k.1.whole ∙ sym (append_assoc h.1.front k.1.front k.1.back);
-      first = ((h.0, k.0), record { front = h.1.front; back = k.1.front; whole = refl; first = h.1.first; second = k.1.first }, refl);
-      second = k.1.second;
-    })
+    | inr k ↦ inr (
+      k.0 h.0,
+      record {
+        front = h.1.front ++ k.1.front;
+        back = k.1.back;
+        whole = h.1.whole ∙ ap (λ s. h.1.front ++ s) k.1.whole ∙ sym (append_assoc h.1.front k.1.front k.1.back);
+        first = ((h.0, k.0), record { front = h.1.front; back = k.1.front; whole = refl; first = h.1.first; second = k.1.first }, refl);
+        second = k.1.second;
+      },
+    )
   ]
 
   pub same_regroup : SameAs in_front behind

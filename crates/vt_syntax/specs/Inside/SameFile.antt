@@ -13,12 +13,9 @@ use Rattle.vt_syntax.specs.Rules as rule
 use Rattle.vt_syntax.specs.Inside.Factored.{literal_rest, variable_rest, named, plain, equal_rest, differ_rest, comparison, type_rest, path_rest, compared_rest, constraint_rest, named_constraint, plain_constraint, java_constraint}
 use Rattle.vt_syntax.specs.Inside.Factored as one
 use Rattle.vt_syntax.specs.Inside.SameChoices.{same_through, same_split, same_join, same_named, same_turned, same_regroup, same_order, same_gathered, same_ended}
-use Rattle.vt_syntax.specs.declared.tree.ConstraintTree.{ConstraintTree}
 use Rattle.vt_syntax.specs.declared.tree.ConstraintTree.TheVariants as constraint_tree
 use Rattle.vt_syntax.specs.declared.tree.TypeTree.TheVariants as type_tree
-use Rattle.vt_syntax.specs.declared.tree.RightTree.{RightTree}
 use Rattle.vt_syntax.specs.declared.tree.RightTree.TheVariants as right_tree
-use Rattle.vt_syntax.specs.declared.tree.TermTree.{TermTree}
 use Rattle.vt_syntax.specs.declared.tree.TermTree.TheVariants as term_tree
 use Rattle.vt_syntax.specs.declared.tree.ArgTree.TheVariants as arg_tree
 
