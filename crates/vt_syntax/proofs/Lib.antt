@@ -1,0 +1,4 @@
+pub mod DepthLemmas
+pub mod ExpressionLemmas
+pub mod ReaderLemmas
+pub mod PartLemmas
