@@ -1,0 +1,16 @@
+use Rattle.std.proofs.Common.{◌≡◌, ◌<◌, length, get_or, ap, ◌∙◌, arith}
+use Rattle.std.proofs.lemmas.List.{length-set}
+use Rattle.vt_memory.specs.Inside.Indexed.{without_entry}
+use Rattle.vt_memory.proofs.IndexLemmas.{changed_one}
+use Rattle.vt_memory.proofs.index.take_all.Goals as goal
+
+pub loop-i-preserved : goal.loop-i-preserved
+loop-i-preserved c =
+    let old = c.args.indexes.now.items in
+    let xs = c.loop-i.indexes.items in
+    let was = c.index_mut.result.now in
+    let inv = c.loop-i.invariant in
+    let inside : c.loop-i.i < length old = omega (arith, c.loop-i-test.true, c.loop-i.auto.i-end, c.len-i-end.ensures, c.args.indexes.now.ok.0) in
+    let is : c.take.new.index ≡ without_entry c.args.key c.args.row.now (get_or xs c.loop-i.i was) = c.take.ensures ∙ ap (without_entry c.args.key c.args.row.now) c.index_mut.ensures.value in
+    let next = changed_one (without_entry c.args.key c.args.row.now) old xs c.loop-i.i c.take.new.index was inside inv.long inv.done inv.rest is in
+    record { done = next.0; rest = next.1; long = length-set xs c.loop-i.i c.take.new.index ∙ inv.long }

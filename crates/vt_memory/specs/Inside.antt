@@ -1,0 +1,4 @@
+-- No public clause cites a module below.
+pub mod Chains
+pub mod Numbers
+pub mod Indexed
