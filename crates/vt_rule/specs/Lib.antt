@@ -1,0 +1,2 @@
+-- words of public clauses
+pub mod Jobs
