@@ -12,7 +12,7 @@ use Rattle.std.proofs.lemmas.Bool.Decides.{nat_tests}
 use Rattle.vt_facts.specs.Parts.{◌>>=◌}
 use Rattle.vt_facts.proofs.BoolLemmas.{and_right}
 use Rattle.vt_json.specs.Names.{is_name, continues_object_name}
-use Rattle.vt_text.specs.Lexicon.{number_of}
+use Rattle.vt_tokens.specs.Lexicon.{number_of}
 use Rattle.vt_model.specs.declared.change.Change.{Change}
 use Rattle.vt_model.specs.declared.change.Change.TheVariants as change
 use Rattle.vt_script.specs.declared.line.Line.{Line}

@@ -7,7 +7,7 @@ use Rattle.std.specs.Str.Parse.{ParsesUnsigned}
 use Rattle.std.proofs.lemmas.Bool.{ne_eqb}
 use Rattle.std.proofs.lemmas.Bool.Decides.{nat_tests}
 use Rattle.std.proofs.lemmas.Str.Parse.{IsNumeralModel, numerals_by_fold, parse_plain}
-use Rattle.vt_text.specs.Lexicon.{number_of}
+use Rattle.vt_tokens.specs.Lexicon.{number_of}
 use Rattle.vt_script.specs.Words.{cut, is_numeral, number, integer}
 use Rattle.vt_facts.proofs.BoolLemmas.{and_left, and_right}
 use denote.Ref.{Bor}

@@ -7,8 +7,8 @@ use Rattle.vt_facts.specs.Firsts.{first_of}
 use Rattle.vt_facts.specs.Names.{is_name as is_word}
 use Rattle.vt_facts.specs.Parts.{◌>>=◌, with_front}
 use Rattle.vt_json.specs.Names.{is_name, continues_object_name}
-use Rattle.vt_text.specs.Lexicon.{begins_word, goes_on, number_of}
-use Rattle.vt_text.specs.Quoting.{quoted}
+use Rattle.vt_tokens.specs.Lexicon.{begins_word, goes_on, number_of}
+use Rattle.vt_tokens.specs.Quoting.{quoted}
 use Rattle.vt_base.specs.declared.agenda.Policy.{Policy}
 use Rattle.vt_base.specs.declared.agenda.Policy.TheVariants.{Fixed, Inverted, Oldest, Turns}
 use Rattle.vt_model.specs.declared.change.Given.{Given}

@@ -1,6 +1,6 @@
 //! Scripts of sessions: from bytes to a list of commands, or the first fault.
 //!
-//! It stands on `vt_base` and `vt_model`, and takes the words of `vt_text` and `vt_json` for names and
+//! It stands on `vt_base` and `vt_model`, and takes the words of `vt_tokens` and `vt_json` for names and
 //! numbers. Read `specs/Words.antt`, `specs/Commands.antt`, `specs/Script.antt`, then
 //! `specs/Formed.antt`.
 #![tactic(auto)]

@@ -1,6 +1,6 @@
 // The values that changes give to attributes.
 ghost use Rattle.std.specs.Prelude.{◌≡◌};
-ghost use Rattle.vt_text.specs.Quoting.{quoted};
+ghost use Rattle.vt_tokens.specs.Quoting.{quoted};
 ghost use Rattle.vt_script.specs.Words.{truth, integer, value};
 ghost use Rattle.vt_script.specs.Inside.Gives.{Gives};
 
@@ -9,7 +9,7 @@ use crate::words::{behind, number};
 use std::alloc::Global;
 use vt_base::Text;
 use vt_model::Given;
-use vt_text::quoted;
+use vt_tokens::quoted;
 
 /// The greatest number that a line can write.
 const MOST: u64 = 9_223_372_036_854_775_807;

@@ -2,7 +2,7 @@
 ghost use Rattle.std.specs.Prelude.{◌≡◌, ◌≢◌, ◌<◌, ◌≤◌, ◌∷◌, List, ℕ, option_map, IfSome, MatchOption};
 ghost use Rattle.std.specs.List.{list_all};
 ghost use Rattle.vt_json.specs.Names.{is_name, continues_object_name};
-ghost use Rattle.vt_text.specs.Lexicon.{begins_word, goes_on};
+ghost use Rattle.vt_tokens.specs.Lexicon.{begins_word, goes_on};
 ghost use Rattle.vt_script.specs.Words.{cut, is_identifier, identifier, object_name, number, policy, something};
 ghost use Rattle.vt_script.specs.Inside.Gives.{Gives};
 

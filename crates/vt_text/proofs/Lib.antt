@@ -1,19 +1,6 @@
-mod ScanSteps
-mod TestLemmas
-mod FrontLemmas
-mod WordLemmas
-mod StringLemmas
-mod CommentLemmas
-mod MarkLemmas
-mod CutLemmas
-mod SpellingLemmas
-mod LexemeLemmas
 mod ExpressionLemmas
 pub mod NameLemmas
-mod DigitLemmas
 mod DepthLemmas
-mod UnquotedLemmas
-mod QuotedLemmas
 mod KindLemmas
 mod TreeLemmas
 mod SpelledLemmas

@@ -13,7 +13,7 @@ use Rattle.vt_grammar.proofs.ExactLemmas.{not_ok}
 use Rattle.vt_text.specs.declared.expr.Operator.{Operator}
 use Rattle.vt_text.specs.declared.tree.ExprTree.{ExprTree}
 use Rattle.vt_text.specs.declared.tree.ExprTree.TheVariants as tree
-use Rattle.vt_text.specs.Words.{identifier, feature_name, number, string}
+use Rattle.vt_tokens.specs.Words.{identifier, feature_name, number, string}
 use Rattle.vt_text.specs.ExpressionRules.{truth, literal, slot, leaf as written, chain, pair, further, or_sign, and_sign, comparison_sign, sum_sign, product_sign, product, sum, comparison, conjunction, disjunction, negative, negation, enclosed, operand, expression}
 use Rattle.vt_text.specs.Inside.FactoredLeaf as one
 use Rattle.vt_text.specs.Inside.FactoredLeaf.{leaf, read_as}

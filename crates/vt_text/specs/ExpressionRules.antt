@@ -4,7 +4,7 @@ use Rattle.vt_grammar.specs.declared.symbol.Symbol.{Symbol}
 use Rattle.vt_grammar.specs.declared.symbol.Symbol.TheVariants as symbol
 use Rattle.vt_grammar.specs.Grammar.{Grammar, token, alt, star, made}
 use Rattle.vt_grammar.specs.Forms.{◌&◌, maybe}
-use Rattle.vt_text.specs.Words.{identifier, feature_name, number, string}
+use Rattle.vt_tokens.specs.Words.{identifier, feature_name, number, string}
 use Rattle.vt_text.specs.declared.expr.Operator.{Operator}
 use Rattle.vt_text.specs.declared.expr.Operator.TheVariants as operator
 use Rattle.vt_text.specs.declared.tree.Slot.{Slot}

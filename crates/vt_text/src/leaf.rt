@@ -6,10 +6,10 @@ ghost use Rattle.vt_grammar.specs.Gives.{Gives};
 ghost use Rattle.vt_text.specs.ExpressionRules.{truth};
 ghost use Rattle.vt_text.specs.Inside.FactoredLeaf.{literal_rest, attribute_rest, name_rest, named, leaf};
 
-use crate::words::{feature_name, identifier, number, string};
 use crate::{ExprTree, Slot};
 use vt_base::Text;
 use vt_grammar::{Lexeme, Stop, Symbol, is_next, one};
+use vt_tokens::{feature_name, identifier, number, string};
 
 #[tactic(auto, unfolding(vt_grammar::specs::Reading::read))]
 fn truth(lexemes: &[Lexeme]) -> Result<(bool, &[Lexeme]), Stop>

@@ -1,18 +1,9 @@
-//! Tokens of queries and rules, their lexemes, and expressions.
+//! Expressions: how they are read, their kinds and values; and tokens and lexemes, which it hands on.
 //!
-//! It stands on `vt_base` and `vt_grammar`. Read `specs/Lexicon.antt`, `specs/Spelling.antt`,
-//! `specs/Quoting.antt`, `specs/Lexemes.antt`; then `specs/Words.antt`, `specs/ExpressionRules.antt`,
+//! It stands on `vt_base`, `vt_grammar` and `vt_tokens`. Read `specs/ExpressionRules.antt`,
 //! `specs/Parsing.antt`, `specs/Expression.antt` and `specs/Kinds.antt`.
 #![tactic(auto)]
 
-// The tokens of a text, and its lexemes.
-mod lexeme;
-mod lexer;
-mod piece;
-mod quoting;
-mod token;
-// Words, numbers and strings among lexemes.
-mod words;
 // Expressions as they are written, and how they are read.
 mod leaf;
 mod reader;
@@ -27,16 +18,14 @@ mod slots;
 // Their values and kinds.
 mod eval;
 mod kind;
-// What holds of every text and every expression.
+// What holds of every expression.
 mod laws;
 
-// The tokens of a text, and its lexemes.
-pub use lexeme::lexemes;
-pub use lexer::tokens;
-pub use quoting::quoted;
-pub use token::{Token, TokenFault, TokenKind};
-// Words, numbers and strings among lexemes.
-pub use words::{feature_name, identifier, number, string};
+// Tokens, their lexemes, and words, numbers and strings among these.
+pub use vt_tokens::{
+    Token, TokenFault, TokenKind, feature_name, identifier, lexemes, lexemes_among, number, quoted,
+    string, tokens,
+};
 // Expressions as they are written.
 pub use tree::{ExprTree, OperandTree, Slot};
 // Expressions over slots, and how they are made.
@@ -46,8 +35,5 @@ pub use parsing::{ExprFault, Parsed, expr_tree, parse_expr, read_expr};
 pub use slots::{reads, slots_of};
 // Their values and kinds.
 pub use kind::KindClash;
-// What holds of every text and every expression.
-pub use laws::{
-    all_are_among, bad_spells_nothing, each_mark_has_a_symbol, one_bad_line, one_expression,
-    one_list, spells_or_is_bad, strings_are_quoted, tokens_are_slices, values_have_the_kind,
-};
+// What holds of every expression.
+pub use laws::{one_expression, values_have_the_kind};

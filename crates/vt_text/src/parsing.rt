@@ -1,19 +1,19 @@
 // From lexemes to an expression and its slots.
 ghost use Rattle.std.specs.Prelude.{◌≡◌, IfOk, IfErr, MatchOption};
 ghost use Rattle.vt_grammar.specs.Grammar.{Spells};
-ghost use Rattle.vt_text.specs.Spelling.{AreAmong};
-ghost use Rattle.vt_text.specs.Lexemes.{lexemes_of};
+ghost use Rattle.vt_tokens.specs.Spelling.{AreAmong};
+ghost use Rattle.vt_tokens.specs.Lexemes.{lexemes_of};
 ghost use Rattle.vt_text.specs.ExpressionRules.{expression};
 ghost use Rattle.vt_text.specs.Parsing.{IsParsed, IsNoExpression, IsFaultOf};
 
-use crate::lexeme::each;
 use crate::meaning::resolve;
 use crate::reader::front;
-use crate::{Expr, ExprTree, Slot, Token};
+use crate::{Expr, ExprTree, Slot};
 use std::alloc::{AllocError, AllocFailed, Global};
 use thiserror::Error;
 use vt_base::{List, Names, NoMemory};
 use vt_grammar::{Lexeme, Stop};
+use vt_tokens::{Token, lexemes_among};
 
 /// An expression with its slots: the number of a slot is its place among them.
 #[derive(Debug, Drop)]
@@ -110,7 +110,7 @@ pub fn read_expr<N: Names>(
 
 /// The expression that tokens of a text spell, over its slots. In rules an attribute of a variable
 /// is a slot too.
-#[tactic(auto, using(crate::proofs::LexemeLemmas::each_among, crate::proofs::MeantLemmas::parsed_of_same, crate::proofs::MeantLemmas::fault_of_same))]
+#[tactic(auto, using(crate::proofs::MeantLemmas::parsed_of_same, crate::proofs::MeantLemmas::fault_of_same))]
 pub fn parse_expr<N: Names>(
     alloc: Global,
     text: &str,
@@ -128,7 +128,7 @@ pub fn parse_expr<N: Names>(
     ensures refused { IfErr result (λ fault.
         IsFaultOf attributes (N.enums names.now) (lexemes_of text.now tokens.now) fault) }
 {
-    let lexemes = each(alloc, text, tokens)?;
+    let lexemes = lexemes_among(alloc, text, tokens)?;
     let parsed = read_expr(alloc, lexemes.as_slice(), attributes, names)?;
     Ok(parsed)
 }

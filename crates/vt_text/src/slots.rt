@@ -89,7 +89,7 @@ fn add_first(alloc: Global, slots: &mut List<Slot>, slot: &Slot) -> Result<(), N
 }
 
 // Each once, where it first stands.
-#[tactic(auto, using(crate::proofs::TreeLemmas::firsts_goes, crate::proofs::TreeLemmas::firsts_all, crate::proofs::TreeLemmas::firsts_done))]
+#[tactic(auto, using(crate::proofs::TreeLemmas::firsts_all))]
 fn firsts(alloc: Global, reads: &[Slot]) -> Result<List<Slot>, NoMemory>
     ensures { IfOk result (λ slots. slots ≡ firsts reads.now) }
 {

@@ -6,8 +6,8 @@ use Rattle.vt_grammar.specs.Reading.{read}
 use Rattle.vt_grammar.specs.Gives.{ahead}
 use Rattle.vt_grammar.specs.Forms.{applied}
 use Rattle.vt_grammar.proofs.RollLemmas.{ahead_nil}
-use Rattle.vt_text.specs.Words.{identifier}
-use Rattle.vt_text.proofs.NameLemmas.{named_rest, rest_fails}
+use Rattle.vt_tokens.specs.Words.{identifier}
+use Rattle.vt_tokens.proofs.NameLemmas.{named_rest, rest_fails}
 use Rattle.vt_vql.specs.Inside.Factored.{type_rest, feature_rest, constraint, line, pattern}
 
 -- ---- a constraint, whose rest is a function of the name before it

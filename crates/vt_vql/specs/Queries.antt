@@ -2,10 +2,10 @@
 use Rattle.std.specs.Prelude.{◌≡◌, ℕ, List, true, false, Some, None}
 use Rattle.std.specs.Str.{is_utf8}
 use Rattle.vt_grammar.specs.Grammar.{Spells}
-use Rattle.vt_text.specs.Spelling as token
-use Rattle.vt_text.specs.Spelling.{IsBadAt}
-use Rattle.vt_text.specs.Lexemes.{lexemes_of}
-use Rattle.vt_text.specs.declared.token.Token.{Token}
+use Rattle.vt_tokens.specs.Spelling as token
+use Rattle.vt_tokens.specs.Spelling.{IsBadAt}
+use Rattle.vt_tokens.specs.Lexemes.{lexemes_of}
+use Rattle.vt_tokens.specs.declared.token.Token.{Token}
 use Rattle.vt_model.specs.Metamodel.{Metamodel}
 use Rattle.vt_query.specs.declared.program.Program.{Program}
 use Rattle.vt_vql.specs.Rules.{file}

@@ -3,7 +3,7 @@ use Rattle.std.specs.Prelude.{List, Bool, is_none}
 use Rattle.vt_grammar.specs.declared.symbol.Symbol.TheVariants as symbol
 use Rattle.vt_grammar.specs.Grammar.{Grammar, token, alt, star, made}
 use Rattle.vt_grammar.specs.Forms.{◌&◌, after, before, separated, some_of, maybe}
-use Rattle.vt_text.specs.Words.{identifier, feature_name}
+use Rattle.vt_tokens.specs.Words.{identifier, feature_name}
 use Rattle.vt_vql.specs.declared.tree.FileTree.{FileTree}
 use Rattle.vt_vql.specs.declared.tree.PatternTree.{PatternTree}
 use Rattle.vt_vql.specs.declared.tree.ParamTree.{ParamTree}

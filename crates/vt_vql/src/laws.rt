@@ -10,7 +10,7 @@ ghost use Rattle.vt_vql.specs.declared.fault.QueryFault.TheVariants.{NoMemory};
 
 use crate::FileTree;
 use vt_grammar::one_tree;
-use vt_text::{bad_spells_nothing, one_bad_line, one_list};
+use vt_tokens::{bad_spells_nothing, one_bad_line, one_list};
 
 /// Bytes make at most one program.
 pub fn one_program()

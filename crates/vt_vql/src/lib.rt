@@ -1,6 +1,6 @@
 //! Query files: from bytes to a program of patterns, or the first fault.
 //!
-//! It stands on `vt_grammar`, `vt_text`, `vt_meta` and `vt_query`. Read `specs/Rules.antt`,
+//! It stands on `vt_grammar`, `vt_tokens`, `vt_meta` and `vt_query`. Read `specs/Rules.antt`,
 //! `specs/Scope.antt`, `specs/Resolving.antt`, then `specs/Queries.antt`.
 #![tactic(auto)]
 

@@ -19,7 +19,7 @@ use std::alloc::Global;
 use vt_grammar::{Lexeme, Spelled, Stop, whole};
 use vt_meta::Metamodel;
 use vt_query::Program;
-use vt_text::{TokenFault, lexemes, tokens};
+use vt_tokens::{TokenFault, lexemes, tokens};
 
 impl Spelled for FileTree {
     ghost use Rattle.std.specs.Prelude.{refl};

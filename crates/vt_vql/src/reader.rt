@@ -6,7 +6,7 @@ ghost use Rattle.vt_grammar.specs.Reading.{read as reading};
 ghost use Rattle.vt_grammar.specs.Gives.{Gives};
 ghost use Rattle.vt_grammar.specs.Grammar.{token};
 ghost use Rattle.vt_grammar.specs.declared.symbol.Symbol.TheVariants as symbol;
-ghost use Rattle.vt_text.specs.Words.{identifier};
+ghost use Rattle.vt_tokens.specs.Words.{identifier};
 ghost use Rattle.vt_vql.specs.Rules.{term, param, shown};
 ghost use Rattle.vt_vql.specs.Inside.Factored.{type_rest, feature_rest, constraint, line, body, pattern, file};
 
@@ -14,7 +14,7 @@ use crate::{ConstraintTree, FileTree, ParamTree, PatternTree, TermTree};
 use std::alloc::Global;
 use vt_base::{List, Text};
 use vt_grammar::{Lexeme, Member, Stop, Symbol, is_next, more, one};
-use vt_text::{feature_name, identifier};
+use vt_tokens::{feature_name, identifier};
 
 // ---- constraints
 

@@ -3,7 +3,7 @@ use Rattle.std.specs.Prelude.{ℕ, List, Bool, true, false, Some, None}
 use Rattle.vt_grammar.specs.declared.symbol.Symbol.TheVariants as symbol
 use Rattle.vt_grammar.specs.Grammar.{Grammar, nothing, token, alt, made}
 use Rattle.vt_grammar.specs.Forms.{◌&◌}
-use Rattle.vt_text.specs.Words.{identifier, feature_name, number, string}
+use Rattle.vt_tokens.specs.Words.{identifier, feature_name, number, string}
 use Rattle.vt_text.specs.ExpressionRules.{truth, disjunction, operand}
 use Rattle.vt_text.specs.declared.tree.ExprTree.{ExprTree}
 use Rattle.vt_text.specs.declared.tree.ExprTree.TheVariants as tree

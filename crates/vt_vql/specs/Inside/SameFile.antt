@@ -4,7 +4,7 @@ use Rattle.vt_grammar.specs.Grammar.{token}
 use Rattle.vt_grammar.specs.Forms.{◌&◌, separated, some_of}
 use Rattle.vt_grammar.specs.SameAs.{SameAs}
 use Rattle.vt_grammar.specs.Inside.SameLaws.{same_itself, same_seq, same_made, same_star, same_after, same_before, same_front_of_two}
-use Rattle.vt_text.specs.Words.{identifier, feature_name}
+use Rattle.vt_tokens.specs.Words.{identifier, feature_name}
 use Rattle.vt_vql.specs.Rules.{term, param, shown}
 use Rattle.vt_vql.specs.Rules as rule
 use Rattle.vt_vql.specs.Inside.Factored as one

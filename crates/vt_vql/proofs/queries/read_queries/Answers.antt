@@ -1,5 +1,5 @@
 use Rattle.std.proofs.Common.{sym, ap, refl, rules, subst, Err}
-use Rattle.vt_text.specs.Spelling.{IsBadAt}
+use Rattle.vt_tokens.specs.Spelling.{IsBadAt}
 use Rattle.std.proofs.lemmas.Str.{is_utf8-from_IsUtf8}
 use Rattle.vt_vql.proofs.FileLemmas.{no_text, bad_in, accepts, is_not_narrow}
 use Rattle.vt_vql.proofs.NarrowLemmas.{made_narrow, made_well_formed}

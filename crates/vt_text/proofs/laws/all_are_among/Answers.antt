@@ -1,5 +1,0 @@
-use Rattle.vt_text.proofs.LexemeLemmas.{all_among}
-use Rattle.vt_text.proofs.laws.all_are_among.Goals as goal
-
-pub returns : goal.returns
-returns c = all_among

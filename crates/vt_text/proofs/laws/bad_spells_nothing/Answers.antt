@@ -1,5 +1,0 @@
-use Rattle.vt_text.proofs.SpellingLemmas.{never_both as proved}
-use Rattle.vt_text.proofs.laws.bad_spells_nothing.Goals as goal
-
-pub returns : goal.returns
-returns c = proved

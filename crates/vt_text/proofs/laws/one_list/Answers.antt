@@ -1,5 +1,0 @@
-use Rattle.vt_text.proofs.SpellingLemmas.{one_list as proved}
-use Rattle.vt_text.proofs.laws.one_list.Goals as goal
-
-pub returns : goal.returns
-returns c = proved

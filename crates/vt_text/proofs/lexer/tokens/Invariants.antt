@@ -1,9 +1,0 @@
-use Rattle.std.proofs.Common.{length}
-use Rattle.vt_text.specs.Inside.Scanned.{Scanned}
-use Rattle.vt_text.proofs.lexer.tokens.Given as goal
-
-abbrev pub invariant-each : goal.invariant-each
-invariant-each l = Scanned l.text l.tokens l.rest l.at l.line
-
-abbrev pub decreases-each : goal.decreases-each
-decreases-each l = length l.rest

@@ -1,0 +1,4 @@
+-- No public clause cites a module below.
+pub mod Scan
+pub mod Scanned
+pub mod Digits
