@@ -1,0 +1,7 @@
+mod ReaderLemmas
+mod PrefixLemmas
+mod FormLemmas
+mod OneLineLemmas
+mod WrongLemmas
+mod LineLemmas
+mod HalfLemmas

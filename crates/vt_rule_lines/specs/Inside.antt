@@ -1,0 +1,4 @@
+-- No public clause cites a module below.
+pub mod Answered
+pub mod Half
+pub mod Returned
