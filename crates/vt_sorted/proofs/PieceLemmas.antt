@@ -63,12 +63,12 @@ pub above_half-append : {T : Type 0} (bs cs : List (List T)) → above_half (bs 
 above_half-append [] cs = omega arith
 above_half-append (b ∷ bs) cs = let deep = above_half-append bs cs in omega arith
 
-pub above_half-set : {T : Type 0} (cs : List (List T)) (j : ℕ) (c : List T) → j < length cs → above_half (set cs j c) + (length (get_or cs j []) - 64) ≡ above_half cs + (length c - 64)
+pub above_half-set : {T : Type 0} (cs : List (List T)) (j : ℕ) (c : List T) → j < length cs → above_half (set cs j c) + (length (get_or cs j []) - 56) ≡ above_half cs + (length c - 56)
 above_half-set [] j c l = absurd (omega arith)
 above_half-set (b ∷ bs) zero c l = omega arith
 above_half-set (b ∷ bs) (suc j) c l = let deep = above_half-set bs j c (omega arith) in omega arith
 
-pub above_half_around : {T : Type 0} (cs : List (List T)) (j : ℕ) → j < length cs → above_half cs ≡ above_half (take j cs) + ((length (get_or cs j []) - 64) + above_half (drop (suc j) cs))
+pub above_half_around : {T : Type 0} (cs : List (List T)) (j : ℕ) → j < length cs → above_half cs ≡ above_half (take j cs) + ((length (get_or cs j []) - 56) + above_half (drop (suc j) cs))
 above_half_around cs j l =
     ap above_half (sym (take-append-drop j cs)) ∙ above_half-append (take j cs) (drop j cs)
     ∙ ap (λ ds. above_half (take j cs) + above_half ds) (drop-cons cs j [] l)
@@ -82,10 +82,10 @@ pub above_half-taken : {T : Type 0} (cs : List (List T)) (j : ℕ) (c : List T) 
 above_half-taken cs j c l e = let h = above_half-set cs j c l in omega arith
 
 -- one item more, and one piece more
-pub room-beside : {T : Type 0} (old new : List (List T)) (j at f f' : ℕ) (item : T) → IsPutBeside old new j at item → j < length old → length (get_or old j []) ≡ 128 → f ≤ f' + 1 → room old f ≤ room new f' + 1
+pub room-beside : {T : Type 0} (old new : List (List T)) (j at f f' : ℕ) (item : T) → IsPutBeside old new j at item → j < length old → length (get_or old j []) ≡ 112 → f ≤ f' + 1 → room old f ≤ room new f' + 1
 room-beside old new j at f f' item p l full le =
     let before = above_half_around old j l in
-    let after : above_half new ≡ above_half (take j old) + ((length p.lower - 64) + ((length p.upper - 64) + above_half (drop (suc j) old))) =
+    let after : above_half new ≡ above_half (take j old) + ((length p.lower - 56) + ((length p.upper - 56) + above_half (drop (suc j) old))) =
     ap above_half p.items ∙ above_half-append (take j old) (p.lower ∷ (p.upper ∷ drop (suc j) old)) in
     let a = p.lower_filled in
     let b = p.upper_filled in
@@ -144,13 +144,13 @@ joined-merged (c ∷ []) k l = absurd (omega arith)
 joined-merged (c ∷ (d ∷ ds)) zero l = append_assoc c d (joined ds)
 joined-merged (c ∷ (d ∷ ds)) (suc k) l = ap (λ xs. c ++ xs) (joined-merged (d ∷ ds) k (omega arith))
 
-above_half-merged : {T : Type 0} (cs : List (List T)) (k : ℕ) → suc k < length cs → length (get_or cs k []) + length (get_or cs (suc k) []) ≤ 128 → above_half (merged cs k) ≤ above_half cs + 64
+above_half-merged : {T : Type 0} (cs : List (List T)) (k : ℕ) → suc k < length cs → length (get_or cs k []) + length (get_or cs (suc k) []) ≤ 112 → above_half (merged cs k) ≤ above_half cs + 56
 above_half-merged [] k l m = absurd (omega arith)
 above_half-merged (c ∷ []) k l m = absurd (omega arith)
 above_half-merged (c ∷ (d ∷ ds)) zero l m = let e = length-append c d in omega arith
 above_half-merged (c ∷ (d ∷ ds)) (suc k) l m = let deep = above_half-merged (d ∷ ds) k (omega arith) m in omega arith
 
-pub room-merged : {T : Type 0} (cs : List (List T)) (k f : ℕ) → suc k < length cs → length (get_or cs k []) + length (get_or cs (suc k) []) ≤ 128 → room cs f ≤ room (merged cs k) (f + 1)
+pub room-merged : {T : Type 0} (cs : List (List T)) (k f : ℕ) → suc k < length cs → length (get_or cs k []) + length (get_or cs (suc k) []) ≤ 112 → room cs f ≤ room (merged cs k) (f + 1)
 room-merged cs k f l m = let h = above_half-merged cs k l m in omega arith
 
 -- the next one may have become empty

@@ -12,10 +12,10 @@ use std::alloc::Global;
 use std::marker::Model;
 
 /// How many items a chunk holds.
-pub(crate) const CHUNK: usize = 128;
+pub(crate) const CHUNK: usize = 112;
 
 /// How many a full chunk keeps where it is split.
-pub(crate) const HALF: usize = 64;
+pub(crate) const HALF: usize = 56;
 
 #[derive(Debug, Drop)]
 pub(crate) struct Chunk<T> {
@@ -32,7 +32,7 @@ impl<T> Model for Chunk<T> {
 
     ghost view = { λ c. c.items.items };
 
-    ghost invariant = { λ c. (128 ≤ vec_capacity c.items) × (vec_len c.items ≤ 128) };
+    ghost invariant = { λ c. (112 ≤ vec_capacity c.items) × (vec_len c.items ≤ 112) };
 }
 
 impl<T> Chunk<T> {
@@ -47,7 +47,7 @@ impl<T> Chunk<T> {
     /// Takes all items of a vector to an empty chunk.
     pub fn take_all(&mut self, items: &mut Vec<T>)
         requires empty { self.old ≡ [] }
-        requires fits { vec_len items.old ≤ 128 }
+        requires fits { vec_len items.old ≤ 112 }
         ensures { self.new ≡ items.old.items }
     {
         self.items.append(items).unwrap()
@@ -55,7 +55,7 @@ impl<T> Chunk<T> {
 
     pub fn len(&self) -> usize
         ensures value { result ≡ length self.now }
-        ensures bound { result ≤ 128 }
+        ensures bound { result ≤ 112 }
     {
         self.items.len()
     }
@@ -76,7 +76,7 @@ impl<T> Chunk<T> {
     /// Puts an item in, where there is room.
     pub fn put(&mut self, at: usize, item: T)
         requires place { at ≤ length self.old }
-        requires room { length self.old < 128 }
+        requires room { length self.old < 112 }
         ensures { self.new ≡ insert self.old at item }
     {
         self.items.insert(at, item).unwrap()
@@ -93,7 +93,7 @@ impl<T> Chunk<T> {
 
     /// Takes all items of another chunk to the end, where there is room.
     pub fn join(&mut self, other: &mut Chunk<T>)
-        requires { length self.old + length other.old ≤ 128 }
+        requires { length self.old + length other.old ≤ 112 }
         ensures joined { self.new ≡ self.old ++ other.old }
         ensures empty { other.new ≡ [] }
     {
@@ -113,11 +113,11 @@ impl<T> Chunk<T> {
 
     /// Moves the upper half of a full chunk to an empty one.
     pub fn split(&mut self, upper: &mut Chunk<T>)
-        requires full { length self.old ≡ 128 }
+        requires full { length self.old ≡ 112 }
         requires empty { upper.old ≡ [] }
         ensures items { self.old ≡ self.new ++ upper.new }
-        ensures lower { length self.new ≡ 64 }
-        ensures upper { length upper.new ≡ 64 }
+        ensures lower { length self.new ≡ 56 }
+        ensures upper { length upper.new ≡ 56 }
     {
         move_upper(&mut self.items, &mut upper.items)
     }
@@ -126,13 +126,13 @@ impl<T> Chunk<T> {
 impl<T> Chunk<T> {
     /// Puts an item into a full chunk, whose upper half goes to an empty one.
     pub fn put_and_split(&mut self, upper: &mut Chunk<T>, at: usize, item: T)
-        requires place { at ≤ 128 }
-        requires full { length self.old ≡ 128 }
+        requires place { at ≤ 112 }
+        requires full { length self.old ≡ 112 }
         requires empty { upper.old ≡ [] }
         ensures items { self.new ++ upper.new ≡ insert self.old at item }
-        ensures lower { 64 ≤ length self.new }
-        ensures upper { 64 ≤ length upper.new }
-        ensures whole { length self.new + length upper.new ≡ 129 }
+        ensures lower { 56 ≤ length self.new }
+        ensures upper { 56 ≤ length upper.new }
+        ensures whole { length self.new + length upper.new ≡ 113 }
     {
         self.split(upper);
         if at <= HALF {
@@ -181,15 +181,15 @@ pub(crate) fn search<T: Ord, K: Like<T>>(items: &[T], key: &K) -> Result<usize, 
     items.binary_search_by(|item| key.order(item).reverse())
 }
 
-// Moves what a vector of 128 items has from place 64 on to one that has room.
+// Moves what a vector of 112 items has from place 56 on to one that has room.
 fn move_upper<T>(from: &mut Vec<T>, to: &mut Vec<T>)
-    requires full { length from.old.items ≡ 128 }
+    requires full { length from.old.items ≡ 112 }
     requires empty { to.old.items ≡ [] }
-    requires room { 128 ≤ vec_capacity to.old }
+    requires room { 112 ≤ vec_capacity to.old }
     ensures items { from.old.items ≡ from.new.items ++ to.new.items }
-    ensures lower { length from.new.items ≡ 64 }
-    ensures upper { length to.new.items ≡ 64 }
-    ensures capacity { (vec_capacity from.new ≡ vec_capacity from.old) × (128 ≤ vec_capacity to.new) }
+    ensures lower { length from.new.items ≡ 56 }
+    ensures upper { length to.new.items ≡ 56 }
+    ensures capacity { (vec_capacity from.new ≡ vec_capacity from.old) × (112 ≤ vec_capacity to.new) }
 {
     for _ in 0..HALF {
         if let Some(last) = from.pop() {

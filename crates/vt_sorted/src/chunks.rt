@@ -92,7 +92,7 @@ impl<T> Chunks<T> {
     pub fn begin(&mut self, items: &mut Vec<T>)
         requires none { self.old.items ≡ [] }
         requires room { 1 ≤ self.old.spare }
-        requires fits { vec_len items.old ≤ 128 }
+        requires fits { vec_len items.old ≤ 112 }
         ensures items { self.new.items ≡ items.old.items ∷ [] }
         ensures room { self.old.spare ≤ self.new.spare + 1 }
     {
@@ -104,7 +104,7 @@ impl<T> Chunks<T> {
     pub fn put_in(&mut self, j: usize, at: usize, item: T)
         requires in_range { j < length self.old.items }
         requires place { at ≤ length (slice_index_or self.old.items j []) }
-        requires room { length (slice_index_or self.old.items j []) < 128 }
+        requires room { length (slice_index_or self.old.items j []) < 112 }
         ensures items { self.new.items ≡ slice_set self.old.items j (insert (slice_index_or self.old.items j []) at item) }
         ensures room { self.new.spare ≡ self.old.spare }
     {
@@ -114,8 +114,8 @@ impl<T> Chunks<T> {
     /// Puts an item into a full chunk, whose upper half goes to a free one behind it.
     pub fn put_beside(&mut self, j: usize, at: usize, item: T)
         requires in_range { j < length self.old.items }
-        requires place { at ≤ 128 }
-        requires full { length (slice_index_or self.old.items j []) ≡ 128 }
+        requires place { at ≤ 112 }
+        requires full { length (slice_index_or self.old.items j []) ≡ 112 }
         requires room { 1 ≤ self.old.spare }
         ensures items { IsPutBeside self.old.items self.new.items j at item }
         ensures room { self.new.spare + 1 ≡ self.old.spare }
@@ -141,7 +141,7 @@ impl<T> Chunks<T> {
     /// Moves the items of the chunk after k to the end of chunk k.
     pub fn merge(&mut self, k: usize)
         requires in_range { k + 1 < length self.old.items }
-        requires fits { length (slice_index_or self.old.items k []) + length (slice_index_or self.old.items (suc k) []) ≤ 128 }
+        requires fits { length (slice_index_or self.old.items k []) + length (slice_index_or self.old.items (suc k) []) ≤ 112 }
         ensures items { self.new.items ≡ merged self.old.items k }
         ensures room { self.new.spare ≡ self.old.spare + 1 }
     {

@@ -121,7 +121,7 @@ impl<T: Ord + Drop> Large<T> {
     /// leave the vector.
     pub fn from_few(alloc: Global, items: &mut Vec<T>, more: usize) -> Result<Large<T>, NoMemory>
         requires ascends { IsStrictlySortedBy T.cmp items.old.items }
-        requires fits { vec_len items.old ≤ 128 }
+        requires fits { vec_len items.old ≤ 112 }
         ensures items { IfOk result (λ set. set.items ≡ items.old.items) }
         ensures room { IfOk result (λ set. more ≤ set.spare) }
         ensures unchanged { OnErr result ((items.new.items ≡ items.old.items) × (vec_capacity items.old ≤ vec_capacity items.new)) }

@@ -43,7 +43,7 @@ pub(crate) fn put<T: Drop>(
 // Whether the chunk after k may be joined to it: it is empty, or both are small.
 fn may_merge<T>(used: &[Chunk<T>], k: usize) -> bool
     requires { k + 1 < length used.now }
-    ensures fits { OnTrue result (length (slice_index_or used.now k []) + length (slice_index_or used.now (suc k) []) ≤ 128) }
+    ensures fits { OnTrue result (length (slice_index_or used.now k []) + length (slice_index_or used.now (suc k) []) ≤ 112) }
     ensures empty { OnFalse result (1 ≤ length (slice_index_or used.now (suc k) [])) }
 {
     let here = used[k].len();

@@ -314,7 +314,7 @@ fn hold<T: Ord + Drop>(
     more: usize,
 ) -> Result<Vec<Large<T>>, NoMemory>
     requires ascends { IsStrictlySortedBy T.cmp items.old.items }
-    requires fits { vec_len items.old ≤ 128 }
+    requires fits { vec_len items.old ≤ 112 }
     ensures one { IfOk result (λ held. vec_len held ≡ 1) }
     ensures items { IfOk result (λ held. (only held).items ≡ items.old.items) }
     ensures room { IfOk result (λ held. more ≤ (only held).spare) }

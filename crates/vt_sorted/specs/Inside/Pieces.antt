@@ -21,11 +21,11 @@ begins_after test (x ∷ xs) = not (test x)
 -- how many items stand above the half of their piece
 abbrev pub above_half : {T : Type 0} → List (List T) → ℕ
 above_half [] = 0
-above_half (c ∷ cs) = (length c - 64) + above_half cs
+above_half (c ∷ cs) = (length c - 56) + above_half cs
 
 -- how many items so many free pieces take beside these: one each, or as many as fill them
 abbrev pub room : {T : Type 0} → List (List T) → ℕ → ℕ
-room cs free = max free (free * 64 - above_half cs)
+room cs free = max free (free * 56 - above_half cs)
 
 -- no piece but the first is empty
 abbrev pub IsFilled : {T : Type 0} → List (List T) → Type 0
@@ -72,9 +72,9 @@ pub record IsPutBeside {T : Type 0} (old new : List (List T)) (j at : ℕ) (item
   pub upper : List T
   pub items : new ≡ take j old ++ (lower ∷ (upper ∷ drop (suc j) old))
   pub whole : lower ++ upper ≡ insert (slice_index_or old j []) at item
-  pub lower_filled : 64 ≤ length lower
-  pub upper_filled : 64 ≤ length upper
-  pub sum : length lower + length upper ≡ 129
+  pub lower_filled : 56 ≤ length lower
+  pub upper_filled : 56 ≤ length upper
+  pub sum : length lower + length upper ≡ 113
 
 -- the pieces with k and the next one end to end
 abbrev pub merged : {T : Type 0} → List (List T) → ℕ → List (List T)
@@ -107,5 +107,5 @@ pub record GoesIn {T : Type 0} (R : T → T → Ordering) (cs : List (List T)) (
 -- piece j may be joined to a neighbour: k is the earlier of the two
 pub record IsMergePlace {T : Type 0} (cs : List (List T)) (j k : ℕ) : Type 0 where
   pub in_range : suc k < length cs
-  pub fits : length (slice_index_or cs k []) + length (slice_index_or cs (suc k) []) ≤ 128
+  pub fits : length (slice_index_or cs k []) + length (slice_index_or cs (suc k) []) ≤ 112
   pub near : (k ≡ j) ⊎ (suc k ≡ j)

@@ -9,10 +9,10 @@ use Rattle.vt_sorted.specs.declared.sorted.Form.TheVariants.{Few, Many}
 
 -- the items, and how many more are taken with no memory
 abbrev pub seen : {T : Type 0} → Form T → Room T
-seen (Few items) = record { items = items.items; spare = min 128 (vec_capacity items) - vec_len items }
+seen (Few items) = record { items = items.items; spare = min 112 (vec_capacity items) - vec_len items }
 seen (Many held) = only held
 
 -- few items ascend, and fill no more than a chunk
 abbrev pub IsSound : {T : Type 0} → (T → T → Ordering) → Form T → Type 0
-IsSound R (Few items) = IsStrictlySortedBy R items.items × (vec_len items ≤ 128)
+IsSound R (Few items) = IsStrictlySortedBy R items.items × (vec_len items ≤ 112)
 IsSound R (Many held) = vec_len held ≡ 1

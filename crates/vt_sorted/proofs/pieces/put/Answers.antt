@@ -31,7 +31,7 @@ returns-in-Ok-clause-room g c =
     let is : c.index-as_slice-j.result ≡ get_or old c.args.j [] =
     get_or_read c.as_slice.result.now c.args.j _ (subst (λ cs. c.args.j < length cs) (sym c.as_slice.ensures) inside) c.index-as_slice-j.is [] ∙ ap (λ cs. get_or cs c.args.j []) c.as_slice.ensures in
     let size = ap length is in
-    let full : length (get_or old c.args.j []) ≡ 128 = omega arith in
+    let full : length (get_or old c.args.j []) ≡ 112 = omega arith in
     let grows = c.make_free.ensures.grows in
     let one = c.put_beside.ensures.room in
     room-beside old new c.args.j c.args.at c.args.chunks.now.spare c.put_beside.new.self.spare c.args.item p inside full (omega arith)

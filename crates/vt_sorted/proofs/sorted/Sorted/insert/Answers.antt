@@ -16,6 +16,6 @@ invariant_of-self-then-len-lt-CHUNK g c =
     let p : GoesAt R old c.args.item c.in-Err.at = subst (λ xs. GoesAt R xs c.args.item c.in-Err.at) c.deref.ensures.value c.in-Err.ensures.absent in (
       subst (IsStrictlySortedBy R) (sym c.insert.ensures.items)
           (elim (is_ok c.insert.result) as (λ b. IsStrictlySortedBy R (cond b (insert old c.in-Err.at c.args.item) old)) [ true ↦ p.ascends | false ↦ sound.0 ]),
-      subst (λ m. m ≤ 128) (sym c.insert.ensures.len)
-          (elim (is_ok c.insert.result) as (λ b. cond b (n + 1) n ≤ 128) [ true ↦ omega arith | false ↦ omega arith ]),
+      subst (λ m. m ≤ 112) (sym c.insert.ensures.len)
+          (elim (is_ok c.insert.result) as (λ b. cond b (n + 1) n ≤ 112) [ true ↦ omega arith | false ↦ omega arith ]),
     )
